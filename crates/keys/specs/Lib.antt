@@ -1,0 +1,4 @@
+pub mod Laws
+pub mod Spans
+pub mod Senses
+pub mod Kinds
