@@ -72,10 +72,13 @@ fn run(rt: &LibcRuntime, text: &[u8]) -> Result<bool, AnyError> {
 
 fn main(rt: LibcRuntime) -> Result<(), AnyError> {
     let text = read_script(&rt)?;
-    if run(&rt, text.as_slice())? {
-        Ok(())
-    } else {
+    match run(&rt, text.as_slice()) {
+        Ok(true) => Ok(()),
         // what was not understood stands in the output; the status says so
-        Err("not understood".into())
+        Ok(false) => Err("not understood".into()),
+        Err(e) => {
+            eprintln!(rt, "typebook: {e}")?;
+            Err(e)
+        }
     }
 }
