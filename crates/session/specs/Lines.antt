@@ -104,7 +104,7 @@ abbrev pub allPrinted : ℕ → List (List ℕ) → List ℕ
 allPrinted read [] = []
 allPrinted read (line ∷ ls) = printed (oneMore read) line ++ allPrinted (oneMore read) ls
 
--- what was printed with the answer behind it; a line that is not understood, or want of memory, prints none
+-- what was printed with the answer behind it; a line that is not understood prints none; at want of memory nothing is promised
 abbrev pub Replies : Result (List ℕ) Reason → List ℕ → List ℕ → Result (Unit {0}) Trouble → Type 0
 Replies told before after (Ok done) = (bytes : List ℕ) × (told ≡ Ok bytes) × Behind before bytes after
 Replies told before after (Err (NotUnderstood why)) = (told ≡ Err why) × (after ≡ before)
