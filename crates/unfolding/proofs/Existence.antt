@@ -6,12 +6,12 @@ use mathlib.Core.Logic.{_⊎_, inl, inr, ⊎-elim, _↔_}
 use Prim.Native.Nat.{ℕ, zero, suc, _+_, _≤_, _<_}
 use native.Mathlib.Omega.{arith}
 use lib.ListN.{length}
-use Rattle.unfolding.specs.Lists.{Mem, Distinct}
+use Rattle.unfolding.specs.Lists.{Mem}
 use Rattle.catalog.specs.Catalog.{Catalog}
 use Rattle.unfolding.specs.Shapes.{Shape, formed}
 use Rattle.unfolding.specs.Unfolding.{Tree, built, node, Trees, none, more, Link, Unfolds, UnfoldAll, HasUnfolding, Leads, itself, onward, builtIn}
 use Rattle.unfolding.specs.Laws.{GoesRound, Exists}
-use Rattle.unfolding.proofs.Lists.{not-both, same-some, split-bool, pigeon}
+use Rattle.unfolding.proofs.Lists.{Distinct, not-both, same-some, split-bool, pigeon}
 use Rattle.unfolding.proofs.Unfolding.{unique, link-has}
 use Rattle.std.specs.declared.option.Option.{Option}
 use Rattle.std.specs.declared.option.Option.the-variants.{Some, None}

@@ -10,7 +10,7 @@ use lib.ListN.{length}
 use Rattle.std.proofs.shelf.Tests.{eqb-true, eq-eqb}
 use Rattle.std.specs.declared.option.Option.{Option}
 use Rattle.std.specs.declared.option.Option.the-variants.{Some, None}
-use Rattle.unfolding.specs.Lists.{Mem, Distinct}
+use Rattle.unfolding.specs.Lists.{Mem}
 
 pub not-both : {b : Bool} → b ≡ true → b ≡ false → ⊥
 not-both {b} p q = let z : _≡_ {A = ℕ} 0 1 = cc in omega arith
@@ -28,6 +28,11 @@ split-bool false = inr refl
 pub split-option : {A : Type 0} (x : Option A) → (x ≡ None) ⊎ ((a : A) × (x ≡ Some a))
 split-option None = inl refl
 split-option (Some a) = inr (a, refl)
+
+-- no number twice
+abbrev pub Distinct : List ℕ → Type 0
+Distinct [] = Unit {0}
+Distinct (x ∷ xs) = (Mem x xs → ⊥) × Distinct xs
 
 without : ℕ → List ℕ → List ℕ
 without x [] = []

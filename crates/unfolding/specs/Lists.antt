@@ -1,4 +1,4 @@
--- Membership of a list of numbers, and lists without repetition.
+-- Membership of a list of numbers.
 -- Assumes nothing.
 use mathlib.Core.Path.{_≡_}
 use mathlib.Core.List.{List, [], _∷_}
@@ -8,7 +8,3 @@ use Prim.Native.Nat.{ℕ}
 abbrev pub Mem : ℕ → List ℕ → Type 0
 Mem o [] = ⊥
 Mem o (p ∷ ps) = (o ≡ p) ⊎ Mem o ps
-
-abbrev pub Distinct : List ℕ → Type 0
-Distinct [] = Unit {0}
-Distinct (x ∷ xs) = (Mem x xs → ⊥) × Distinct xs
