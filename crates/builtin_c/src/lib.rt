@@ -1,4 +1,6 @@
 // The built-in types for a host in C or Rust, on plain numbers and bytes. A slice is a pointer and then a length.
+#![tactic(auto)]
+
 ghost use Rattle.std.specs.Prelude.{◌≡◌, length};
 ghost use Rattle.builtin_c.specs.Told.{component_told, kind_told, laid_over, name_told, oid_told};
 ghost use Rattle.type_info.specs.Table.{array_of, by_name, by_oid};

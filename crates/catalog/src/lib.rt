@@ -1,4 +1,6 @@
 // What a PostgreSQL catalog tells of types: rows and columns, the shape of a row, rounds and questions.
+#![tactic(auto)]
+
 pub mod codes;
 pub mod faults;
 pub mod questions;

@@ -19,9 +19,9 @@ module _ {Q V : Type 0} (alike : Q → Q → Bool) (tells : (a b : Q) → Decide
   interned-hit before key offered u v h same = (
     λ q.
         ⊎_elim
-        (λ e. ap before ((tells q key).0 e) ∙ h ∙ ap Some (sym same) ∙ sym (cond-true (alike q key) (Some u) (before q) e))
-        (λ e. sym (cond-false (alike q key) (Some u) (before q) e))
-        (cases_Bool (alike q key)),
+        (λ e. ap before (sym ((tells key q).0 e)) ∙ h ∙ ap Some (sym same) ∙ sym (cond-true (alike key q) (Some u) (before q) e))
+        (λ e. sym (cond-false (alike key q) (Some u) (before q) e))
+        (cases_Bool (alike key q)),
     λ none. let z : ◌≡◌ {A = ℕ} 0 1 = cc in absurd (omega arith),
     λ w some. cc,
   )
@@ -65,4 +65,4 @@ module _ {V : Type 0} where
         (fs : List (Entry Span V)) (v : V) → Added bytes_eq (span_bytes (text_of after)) bytes_digest es name v fs →
         (q : List ℕ) → by_name (text_of after) fs q ≡ update bytes_eq (by_name (text_of before) es) name (Some v) q
     known-after fs v added q =
-        added.holds q ∙ ap (λ (o : Option V). cond (bytes_eq q name) (Some v) o) (ap (λ (t : List ℕ). by_name t es q) laid.text ∙ steady.holds q)
+        added.holds q ∙ ap (λ (o : Option V). cond (bytes_eq name q) (Some v) o) (ap (λ (t : List ℕ). by_name t es q) laid.text ∙ steady.holds q)

@@ -1,3 +1,5 @@
 // Tables by name and by OID: owners of a map that ask nothing of their callers.
+#![tactic(auto)]
+
 pub mod names;
 pub mod oids;

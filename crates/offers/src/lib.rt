@@ -1,4 +1,6 @@
 // What a host offers to a catalog of its own: names as spans of one host text, read into values within their limits.
+#![tactic(auto)]
+
 pub mod offer;
 mod parts;
 pub mod rows;

@@ -1,4 +1,6 @@
 // The catalog of what a host adds: rows, names and columns, in memory that the host lends.
+#![tactic(auto)]
+
 pub mod additions;
 mod judging;
 pub mod memory;

@@ -1,4 +1,6 @@
 // Prints what the readers of a script answer at each limit.
+#![tactic(auto)]
+
 use script::names::decode;
 use script::numbers::{signed, unsigned};
 use script::words::{cut, next_word, only_word};

@@ -1,4 +1,6 @@
 // Carries out a script line by line and lays what is printed into a buffer.
+#![tactic(auto)]
+
 pub mod requests;
 pub mod session;
 pub mod trouble;

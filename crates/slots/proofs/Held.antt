@@ -1,6 +1,7 @@
 -- What the slots hold, by the slot that has the key, by its absence, and after a write. Assumes nothing.
-use Rattle.std.proofs.Common.{◌≡◌, ℕ, zero, suc, ◌+◌, ◌-◌, ◌<◌, ◌≤◌, Bool, true, false, cond, List, [], ◌∷◌, length, get_or, set, Some, None, Decides, sym, refl, ap, ◌∙◌, subst, inl, inr, ⊎_elim, arith}
+use Rattle.std.proofs.Common.{◌≡◌, ℕ, zero, suc, ◌+◌, ◌<◌, ◌≤◌, Bool, true, false, cond, List, [], ◌∷◌, length, set, Some, None, Decides, sym, refl, ap, ◌∙◌, ⊎_elim, arith}
 use Rattle.std.proofs.lemmas.Bool.{cases_Bool, cond-true, cond-false, true≢false}
+use Rattle.std.proofs.lemmas.Bool.Decides.{same_from_decides}
 use Rattle.slots.specs.declared.map.Entry.{Entry}
 use Rattle.slots.specs.declared.map.Entry.TheVariants.{Empty, Full}
 use Rattle.slots.specs.Slots.{filled, held, is_full, at}
@@ -8,6 +9,9 @@ use Rattle.slots.specs.Slots.{filled, held, is_full, at}
 module _ {Q : Type 0} (alike : Q → Q → Bool) (tells : (a b : Q) → Decides (alike a b) (a ≡ b)) where
   pub not_alike : (a b : Q) → (a ≡ b → ⊥) → alike a b ≡ false
   not_alike a b n = ⊎_elim (λ e. absurd (n ((tells a b).0 e))) (λ e. e) (cases_Bool (alike a b))
+
+  pub alike_flipped : (a b : Q) → alike a b ≡ alike b a
+  alike_flipped a b = same_from_decides (alike a b) (alike b a) (tells a b) (λ e. sym ((tells b a).0 e), λ e. (tells b a).1 (sym e))
 
 module _ {S V : Type 0} where
   pub full-not-empty : (e : Entry S V) (s : S) (v : V) → e ≡ Full s v → e ≡ Empty → ⊥

@@ -1,5 +1,5 @@
 -- What a search tells where it stops, and what a write there keeps. Assumes nothing.
-use Rattle.std.proofs.Common.{◌≡◌, ℕ, ◌+◌, ◌-◌, ◌%◌, ◌<◌, ◌≤◌, Bool, true, false, ◌⊎◌, List, ◌++◌, length, get_or, set, Decides, sym, refl, ap, ◌∙◌, subst, inl, inr, ⊎_elim, mod-lt, arith, length-append, length-set, get_or-set_other, get_or-set_same}
+use Rattle.std.proofs.Common.{◌≡◌, ℕ, ◌+◌, ◌-◌, ◌<◌, ◌≤◌, Bool, true, cond, ◌⊎◌, List, ◌++◌, length, set, Some, Decides, sym, refl, ap, ◌∙◌, subst, inl, inr, ⊎_elim, mod-lt, arith, length-append, length-set, get_or-set_other, get_or-set_same}
 use mathlib.Core.Logic.{∥∥₁_elim}
 use mathlib.Core.Bool.{Bool-set}
 use native.Mathlib.Nat.{ℕ_set}
@@ -7,9 +7,9 @@ use Rattle.std.proofs.lemmas.Bool.{cases_order, cases_eq, true≢false}
 use Rattle.slots.specs.declared.map.Entry.{Entry}
 use Rattle.slots.specs.declared.map.Entry.TheVariants.{Empty, Full}
 use Rattle.slots.specs.declared.map.Stop.TheVariants.{Hit, Gap, Crowded}
-use Rattle.slots.specs.Slots.{home, way, around, distance, is_full, at, Other, Ordered, Sound, Within, Passed, Ends, Told, Free, Added, Steady}
+use Rattle.slots.specs.Slots.{held, home, way, distance, is_full, at, Other, Ordered, Sound, Within, Passed, Ends, Told, Free, Added, Steady}
 use Rattle.slots.proofs.Around.{around-below, distance-below, around-distance, distance-around}
-use Rattle.slots.proofs.Held.{Absent, Blank, full-not-empty, full-inside, filled-all, filled-gap, filled-set, held_none, held-some, held-set, held-like}
+use Rattle.slots.proofs.Held.{Absent, Blank, full-not-empty, full-inside, filled-all, filled-gap, filled-set, held_none, held-some, held-set, held-like, alike_flipped}
 
 module _ {S V : Type 0} where
   -- a write of a full slot leaves the full ones full
@@ -151,7 +151,7 @@ module _ {S V Q : Type 0} where
         let there = subst (λ (p : Q). Free sense digest es p i) (sym m) free in
         subst (λ (p : Q). Added alike sense digest es p v after) m (record {
           sound = ∣ ordered-set ordered there ∣₁;
-          holds = λ p. held-set alike tells sense es i s v p free.0.1.inside free.1 (free-absent ordered there);
+          holds = λ p. held-set alike tells sense es i s v p free.0.1.inside free.1 (free-absent ordered there) ∙ ap (λ same. cond same (Some v) (held alike sense es p)) (alike_flipped alike tells p (sense s));
           count = filled-set es i s v free.0.1.inside free.1;
         })
 

@@ -46,10 +46,10 @@ pub struct Map<'a, S, V> {
 impl<'a, S: Copy, V: Copy> Map<'a, S, V> {
     // Looks for the key, from its home slot on.
     pub fn seek<K: Key<Stored = S>>(&self, text: &[u8], key: &K) -> Sought<V>
-        requires sound { Sound (stands text.now) digest self.now.slots.now }
-        requires within { Within extent (length text.now) self.now.slots.now }
-        ensures told { Told alike (stands text.now) digest self.now.slots.now (means key.now) result.looked result.stop }
-        ensures counted { result.looked ≡ looks alike (stands text.now) digest self.now.slots.now (means key.now) }
+        requires sound { Sound (K.stands text.now) K.digest self.now.slots.now }
+        requires within { Within K.extent (length text.now) self.now.slots.now }
+        ensures told { Told K.alike (K.stands text.now) K.digest self.now.slots.now (K.means key.now) result.looked result.stop }
+        ensures counted { result.looked ≡ looks K.alike (K.stands text.now) K.digest self.now.slots.now (K.means key.now) }
     {
         let slots: &[Entry<S, V>] = self.slots;
         let n = slots.len();
@@ -84,9 +84,9 @@ impl<'a, S: Copy, V: Copy> Map<'a, S, V> {
 
     // The value under the key.
     pub fn get<K: Key<Stored = S>>(&self, text: &[u8], key: &K) -> Option<V>
-        requires sound { Sound (stands text.now) digest self.now.slots.now }
-        requires within { Within extent (length text.now) self.now.slots.now }
-        ensures { result ≡ held alike (stands text.now) self.now.slots.now (means key.now) }
+        requires sound { Sound (K.stands text.now) K.digest self.now.slots.now }
+        requires within { Within K.extent (length text.now) self.now.slots.now }
+        ensures { result ≡ held K.alike (K.stands text.now) self.now.slots.now (K.means key.now) }
     {
         match self.seek(text, key).stop {
             Stop::Hit(_, value) => Some(value),
@@ -96,8 +96,8 @@ impl<'a, S: Copy, V: Copy> Map<'a, S, V> {
 
     // A text that grows at its end leaves what the slots hold: the call tells a proof so, and does nothing.
     pub fn growth<K: Key<Stored = S>>(&self, text: &[u8], _key: &K)
-        requires { Within extent (length text.now) self.now.slots.now }
-        ensures { (more : List ℕ) → Steady alike stands digest extent text.now more self.now.slots.now }
+        requires { Within K.extent (length text.now) self.now.slots.now }
+        ensures { (more : List ℕ) → Steady K.alike K.stands K.digest K.extent text.now more self.now.slots.now }
     {}
 
     // Puts an absent key into the empty slot at which a search for it stopped.
@@ -109,13 +109,13 @@ impl<'a, S: Copy, V: Copy> Map<'a, S, V> {
         stored: S,
         value: V,
     )
-        requires sound { Sound (stands text.now) digest self.old.slots.now }
-        requires within { Within extent (length text.now) self.old.slots.now }
-        requires extent { extent stored ≤ length text.now }
-        requires stands { stands text.now stored ≡ means key.now }
-        requires free { Free (stands text.now) digest self.old.slots.now (means key.now) slot }
-        ensures added { Added alike (stands text.now) digest self.old.slots.now (means key.now) value self.new.slots.now }
-        ensures within { Within extent (length text.now) self.new.slots.now }
+        requires sound { Sound (K.stands text.now) K.digest self.old.slots.now }
+        requires within { Within K.extent (length text.now) self.old.slots.now }
+        requires extent { K.extent stored ≤ length text.now }
+        requires stands { K.stands text.now stored ≡ K.means key.now }
+        requires free { Free (K.stands text.now) K.digest self.old.slots.now (K.means key.now) slot }
+        ensures added { Added K.alike (K.stands text.now) K.digest self.old.slots.now (K.means key.now) value self.new.slots.now }
+        ensures within { Within K.extent (length text.now) self.new.slots.now }
     {
         self.slots[slot] = Entry::Full(stored, value);
     }
@@ -128,15 +128,15 @@ impl<'a, S: Copy, V: Copy> Map<'a, S, V> {
         stored: S,
         value: V,
     ) -> Sought<V>
-        requires sound { Sound (stands text.now) digest self.old.slots.now }
-        requires within { Within extent (length text.now) self.old.slots.now }
-        requires extent { extent stored ≤ length text.now }
-        requires stands { stands text.now stored ≡ means key.now }
-        ensures told { Told alike (stands text.now) digest self.old.slots.now (means key.now) result.looked result.stop }
-        ensures counted { result.looked ≡ looks alike (stands text.now) digest self.old.slots.now (means key.now) }
-        ensures after { Inserted alike (stands text.now) digest self.old.slots.now (means key.now) value result.stop self.new.slots.now }
-        ensures sound { Sound (stands text.now) digest self.new.slots.now }
-        ensures within { Within extent (length text.now) self.new.slots.now }
+        requires sound { Sound (K.stands text.now) K.digest self.old.slots.now }
+        requires within { Within K.extent (length text.now) self.old.slots.now }
+        requires extent { K.extent stored ≤ length text.now }
+        requires stands { K.stands text.now stored ≡ K.means key.now }
+        ensures told { Told K.alike (K.stands text.now) K.digest self.old.slots.now (K.means key.now) result.looked result.stop }
+        ensures counted { result.looked ≡ looks K.alike (K.stands text.now) K.digest self.old.slots.now (K.means key.now) }
+        ensures after { Inserted K.alike (K.stands text.now) K.digest self.old.slots.now (K.means key.now) value result.stop self.new.slots.now }
+        ensures sound { Sound (K.stands text.now) K.digest self.new.slots.now }
+        ensures within { Within K.extent (length text.now) self.new.slots.now }
     {
         let sought = self.seek(text, key);
         if let Stop::Gap(slot) = sought.stop {
@@ -147,9 +147,9 @@ impl<'a, S: Copy, V: Copy> Map<'a, S, V> {
 
     // A map over slots that the host lends, with nothing in it.
     pub fn empty<K: Key<Stored = S>>(slots: &'a mut [Entry<S, V>]) -> Map<'a, S, V>
-        ensures sound { (text : List ℕ) → Sound (stands text) digest result.slots.now }
-        ensures within { Within extent 0 result.slots.now }
-        ensures holds { (text : List ℕ) (q : K.Key.Sense) → held alike (stands text) result.slots.now q ≡ None }
+        ensures sound { (text : List ℕ) → Sound (K.stands text) K.digest result.slots.now }
+        ensures within { Within K.extent 0 result.slots.now }
+        ensures holds { (text : List ℕ) (q : K.Key.Sense) → held K.alike (K.stands text) result.slots.now q ≡ None }
         ensures count { filled result.slots.now ≡ 0 }
         ensures size { length result.slots.now ≡ length slots.old }
     {

@@ -1,4 +1,5 @@
 // Runs the tables on many random keys beside a plain list, and tells how many slots their searches look at.
+#![tactic(auto)]
 
 mod against_a_list;
 mod probes;

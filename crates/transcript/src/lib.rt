@@ -1,3 +1,5 @@
 // What a script's run prints, laid byte by byte behind what was printed before.
+#![tactic(auto)]
+
 pub mod answers;
 pub mod words;

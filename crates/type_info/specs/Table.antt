@@ -1,6 +1,6 @@
 -- The built-in types: those that every PostgreSQL has under the same OIDs, as far as the kiosk knows them.
 -- Assumes nothing.
-use Rattle.std.specs.Prelude.{◌≡◌, ℕ, ◌+◌, Bool, true, false, cond, List, [], ◌∷◌, Some, None, codes, Option, ◌==◌, nat_lt, slice_index_or}
+use Rattle.std.specs.Prelude.{ℕ, Bool, true, false, cond, List, [], ◌∷◌, Some, None, codes, Option, ◌==◌, nat_lt, slice_index_or}
 use Prim.Native.String.{String}
 use Rattle.std.specs.Str.{bytes_eq}
 

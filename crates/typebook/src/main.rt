@@ -1,4 +1,6 @@
 // Runs a script, from the file that its only argument names or from standard input, and prints all that it did.
+#![tactic(auto)]
+
 ghost use Rattle.std.specs.Prelude.{◌≡◌, vec_len, OnOk};
 
 use anyhow::anyhow;

@@ -1,4 +1,6 @@
 // Runs stored scripts, those among them that are not understood, and prints what typebook prints for each.
+#![tactic(auto)]
+
 use session::session::Session;
 use std::fs;
 use std::io::Write;

@@ -26,7 +26,7 @@ returns-in-default c =
 
 pub loop-rest-preserved : goal.loop-rest-preserved
 loop-rest-preserved c =
-    let pushed = c.in-ok-push.ensures.items in (
+    let pushed = c.in_ok-push.ensures.items in (
       c.loop-rest.invariant.0
           ∙ laid_more (vec_items c.loop-rest.text) (vec_items c.push.new.self) c.in-Some.b (unescaped c.loop-rest.rest.now) (unescaped c.in-Some.tail.now) c.in-Some.ensures.0 pushed,
       rw pushed (front-more (vec_items c.args.text.now) (vec_items c.loop-rest.text) (c.in-Some.b ∷ []) c.loop-rest.invariant.1),

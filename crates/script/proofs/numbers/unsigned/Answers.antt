@@ -16,7 +16,7 @@ returns-in-err-number c =
 
 pub loop-digit-preserved : goal.loop-digit-preserved
 loop-digit-preserved c = (
-  step c.args.word.now c.loop-digit.digit-index c.loop-digit.number _ _ (search rules) c.loop-digit.invariant.0 c.in-ok-number.ensures,
+  step c.args.word.now c.loop-digit.digit-index c.loop-digit.number _ _ (search rules) c.loop-digit.invariant.0 c.in_ok-number.ensures,
   search rules,
 )
 

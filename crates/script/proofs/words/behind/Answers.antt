@@ -22,4 +22,4 @@ told p s None never = absent p s never
 told p s (Some x) e = sym (found p x.now) ∙ ap (behind_prefix p) (sym e)
 
 pub returns : goal.returns
-returns c = told c.args.prefix.now c.args.word.now c.strip-prefix.result (strip_prefix_is Decides-eqb c.args.word.now c.args.prefix.now c.strip-prefix.result c.strip-prefix.ensures.cases)
+returns c = told c.args.prefix.now c.args.word.now c.strip_prefix.result (strip_prefix_is Decides-eqb c.args.word.now c.args.prefix.now c.strip_prefix.result c.strip_prefix.ensures.cases)

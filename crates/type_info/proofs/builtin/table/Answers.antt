@@ -1,7 +1,7 @@
-use Rattle.std.proofs.Common.{◌≡◌, ℕ, ◌<◌, List, map, length, get_or, sym, ap, ◌∙◌, subst}
+use Rattle.std.proofs.Common.{◌≡◌, List, map, length, get_or, sym, ap, ◌∙◌}
 use Rattle.std.proofs.lemmas.List.{length-map, get_or-map}
 use Rattle.type_info.specs.declared.builtin.BuiltIn.{BuiltIn}
-use Rattle.type_info.specs.Table.{Entry, entries, none, at}
+use Rattle.type_info.specs.Table.{Entry, entries, none}
 use Rattle.type_info.specs.Meaning.{entry_of, Lists}
 use Rattle.type_info.proofs.Facts.{len}
 use Rattle.type_info.proofs.builtin.table.Goals as goal

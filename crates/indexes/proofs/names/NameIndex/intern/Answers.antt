@@ -1,4 +1,4 @@
-use Rattle.std.proofs.Common.{◌≡◌, ℕ, List, length, take, sym, ap, ◌∙◌, subst}
+use Rattle.std.proofs.Common.{◌≡◌, ℕ, List, length, sym, subst}
 use Rattle.std.specs.Str.{bytes_eq}
 use Rattle.std.proofs.lemmas.Slice.Eq.{bytes_eq-Decides}
 use Rattle.slots.specs.declared.map.Stop.{Stop}
@@ -46,12 +46,12 @@ growth-requires g c =
     let self = c.args.self.now in
     subst (λ (t : List ℕ). Within span_end (length t) self.map.slots.now) (sym c.get-in-Gap.ensures) self.within
 
-pub invariant-of-self-in-None : goal.invariant-of-self-in-None
-invariant-of-self-in-None g c =
+pub invariant_of-self-in-None : goal.invariant_of-self-in-None
+invariant_of-self-in-None g c =
     let self = c.args.self.now in
     let after = c.in-None.ensures.after in
     let kept = subst (Kept self.map.slots.now) (sym (same_text self.text c.append.new.self after.1 after.2)) (record { sound = self.sound; within = self.within }) in
-    (c.append.ensures.fits, (kept.sound, (kept.within, tt)))
+    record { fits = c.append.ensures.fits; sound = kept.sound; within = kept.within }
 
 pub put-requires : goal.put-requires
 put-requires g c =
@@ -63,10 +63,10 @@ put-requires g c =
     (record { sound = self.sound; within = self.within }) (told g s (Gap c.in-Gap.slot) c.in-Gap.is)) in
     record { sound = all.kept.sound; within = all.kept.within; extent = all.extent; stands = all.stands; free = all.free }
 
-pub invariant-of-self-in-Some : goal.invariant-of-self-in-Some
-invariant-of-self-in-Some g c =
+pub invariant_of-self-in-Some : goal.invariant_of-self-in-Some
+invariant_of-self-in-Some g c =
     let kept = subst (Kept c.put.new.self.slots.now) c.get-in-Some.ensures (record { sound = c.put.ensures.added.sound; within = c.put.ensures.within }) in
-    (c.append.ensures.fits, (kept.sound, (kept.within, tt)))
+    record { fits = c.append.ensures.fits; sound = kept.sound; within = kept.within }
 
 pub returns-in-Hit : goal.returns-in-Hit
 returns-in-Hit g c =

@@ -1,8 +1,8 @@
 use Rattle.std.proofs.Common.{[]}
 use Rattle.indexes.proofs.oids.OidIndex.new.Goals as goal
 
-pub invariant-of-result : goal.invariant-of-result
-invariant-of-result g c = (c.empty.ensures.sound [], tt)
+pub invariant_of-result : goal.invariant_of-result
+invariant_of-result g c = record { sound = c.empty.ensures.sound [] }
 
 pub returns : goal.returns
 returns g c = c.empty.ensures.holds []

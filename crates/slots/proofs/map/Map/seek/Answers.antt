@@ -1,8 +1,8 @@
-use Rattle.std.proofs.Common.{◌≡◌, ℕ, ◌+◌, ◌%◌, ◌<◌, List, length, sym, refl, ap, ◌∙◌, subst, arith, below_more}
+use Rattle.std.proofs.Common.{◌≡◌, ℕ, ◌+◌, ◌%◌, List, length, sym, ap, ◌∙◌, subst, arith, below_more}
 use Rattle.std.proofs.lemmas.List.{get_or_read}
 use Rattle.std.proofs.lemmas.Bool.Decides.{not_from_Decides}
 use Rattle.slots.specs.declared.map.Entry.{Entry}
-use Rattle.slots.specs.declared.map.Entry.TheVariants.{Empty, Full}
+use Rattle.slots.specs.declared.map.Entry.TheVariants.{Empty}
 use Rattle.slots.specs.declared.map.Stop.TheVariants.{Crowded}
 use Rattle.slots.specs.Slots.{at, around, way, looks, stops_at, Passed, Other, Told}
 use Rattle.slots.proofs.Kept.{told-hit, told-gap, told-crowded}
@@ -12,12 +12,12 @@ use Rattle.slots.proofs.map.Map.seek.Goals as goal
 use Rattle.slots.proofs.map.Map.seek.Goals.{After-index-slots-i}
 
 -- the slot that is looked at lies on the key's way
-there : (g : given.Over) (c : After-index-slots-i g) → c.slot-after-i.result ≡ way g.K.Key.digest (length c.args.self.now.slots.now) (g.K.Key.means c.args.key.now) c.loop-step.step
+there : (g : given.Over) (c : After-index-slots-i g) → c.slot_after-i.result ≡ way g.K.Key.digest (length c.args.self.now.slots.now) (g.K.Key.means c.args.key.now) c.loop-step.step
 there g c =
-    c.slot-after-i.ensures.0 ∙ ap (λ h. around (length c.args.self.now.slots.now) (h % length c.args.self.now.slots.now + c.loop-step.step)) c.hash.ensures
+    c.slot_after-i.ensures.0 ∙ ap (λ h. around (length c.args.self.now.slots.now) (h % length c.args.self.now.slots.now + c.loop-step.step)) c.hash.ensures
 
-read : (g : given.Over) (c : After-index-slots-i g) → at c.args.self.now.slots.now c.slot-after-i.result ≡ c.index-slots-i.result
-read g c = sym (get_or_read _ _ _ c.slot-after-i.ensures.1 c.index-slots-i.is Empty)
+read : (g : given.Over) (c : After-index-slots-i g) → at c.args.self.now.slots.now c.slot_after-i.result ≡ c.index-slots-i.result
+read g c = sym (get_or_read _ _ _ c.slot_after-i.ensures.1 c.index-slots-i.is Empty)
 
 -- where every slot on the way has another key, the map is full and has not this one
 crowded :

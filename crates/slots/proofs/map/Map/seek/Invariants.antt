@@ -1,4 +1,3 @@
-use Rattle.std.proofs.Common.{length}
 use Rattle.slots.specs.Slots.{Passed}
 use Rattle.slots.proofs.map.Map.seek.Given as goal
 
