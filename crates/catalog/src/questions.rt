@@ -52,8 +52,8 @@ pub fn growth_goes_on()
 
 // The row of an OID, whose pretty name leads back to it.
 pub fn named_row<C: TypeCatalog>(catalog: &C, round: &C::Round, oid: Oid) -> Option<Row>
-    ensures answer { row_told result ≡ (meaning catalog.now).rows oid.0 }
-    ensures back { IfSome result (λ k. (meaning catalog.now).named (row_meaning k).pretty ≡ Some oid.0) }
+    ensures answer { row_told result ≡ (C.meaning catalog.now).rows oid.0 }
+    ensures back { IfSome result (λ k. (C.meaning catalog.now).named (row_meaning k).pretty ≡ Some oid.0) }
 {
     catalog.row(round, oid)
 }

@@ -4,7 +4,7 @@ use Rattle.catalog.proofs.questions.growth_goes_on.Goals as goal
 
 chained : (a b d : Catalog) → Grows a b → Grows b d → Grows a d
 chained a b d g h = record {
-  rows_stay = λ o r e. h.rows_stay o r (g.rows-stay o r e);
+  rows_stay = λ o r e. h.rows_stay o r (g.rows_stay o r e);
   named-stay = λ s o e. h.named-stay s o (g.named-stay s o e);
   columns-stay = λ o n k e. h.columns-stay o n k (g.columns-stay o n k e);
 }
