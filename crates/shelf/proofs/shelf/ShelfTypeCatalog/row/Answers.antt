@@ -11,7 +11,7 @@ use Rattle.type_info.proofs.Facts.{laws}
 use Rattle.shelf.specs.Rows.{typtype_byte, category_byte, element_oid, subtype_oid, shelf_row}
 use Rattle.shelf.specs.Laws.{Bounds, bounds, array-nonzero}
 use Rattle.shelf.proofs.shelf.ShelfTypeCatalog.row.Goals as goal
-use Rattle.shelf.proofs.shelf.ShelfTypeCatalog.row.Goals.{In-ok-entry}
+use Rattle.shelf.proofs.shelf.ShelfTypeCatalog.row.Goals.{In_ok-entry}
 
 tested : (o : Option Oid) → Nonzero (oid_told o) → nonzero o ≡ true
 tested None h = refl
@@ -25,41 +25,37 @@ row_is e name typtype category element subtype array p q r s t u =
     λ i. record { pretty = p i; typtype = q i; typcategory = r i; typelem = s i; typbasetype = None; rngsubtype = t i; typarray = u i; labels = []; attributes = [] }
 
 -- the entry that was found
-found-entry : (c : In-ok-entry) → by_oid c.args.oid.0 ≡ Some (entry_of c.in-ok-entry.entry)
-found-entry c = sym c.in-ok-entry.ensures
+found-entry : (c : In_ok-entry) → by_oid c.args.oid.0 ≡ Some (entry_of c.in_ok-entry.entry)
+found-entry c = sym c.in_ok-entry.ensures
 
-pub returns-in-err-pretty : goal.returns-in-err-pretty
-returns-in-err-pretty c =
-    let a = (goal.at.returns-in-err-pretty c).In-ok-entry in
-    let size = subst (λ (n : List ℕ). (1 ≤ length n) × (length n ≤ 128)) (sym c.name.ensures) (bounds c.args.oid.0 (entry_of c.in-ok-entry.entry) (found-entry a)).name in
-    absurd (c.in-err-pretty.ensures size.0 size.1)
+pub returns-in_err-pretty : goal.returns-in_err-pretty
+returns-in_err-pretty c =
+    let a = (goal.at.returns-in_err-pretty c).In_ok-entry in
+    let size = subst (λ (n : List ℕ). (1 ≤ length n) × (length n ≤ 128)) (sym c.name.ensures) (bounds c.args.oid.0 (entry_of c.in_ok-entry.entry) (found-entry a)).name in
+    absurd (c.in_err-pretty.ensures size.0 size.1)
 
-pub invariant-of-result : goal.invariant-of-result
-invariant-of-result c =
-    let a = (goal.at.invariant-of-result c).In-ok-entry in
-    let b = bounds c.args.oid.0 (entry_of c.in-ok-entry.entry) (found-entry a) in (
-      tested c.typelem.result (subst Nonzero (sym (c.typelem.ensures ∙ ap element_oid c.kind-3.ensures)) b.element),
-      (
-        refl,
-        (
-          tested c.rngsubtype.result (subst Nonzero (sym (c.rngsubtype.ensures ∙ ap subtype_oid c.kind-4.ensures)) b.subtype),
-          (
-            tested c.typarray.result (subst Nonzero (sym c.typarray.ensures) (array-nonzero c.args.oid.0)),
-            ((omega arith, omega arith), (refl, tt)),
-          ),
-        ),
-      ),
-    )
+pub invariant_of-result : goal.invariant_of-result
+invariant_of-result c =
+    let a = (goal.at.invariant_of-result c).In_ok-entry in
+    let b = bounds c.args.oid.0 (entry_of c.in_ok-entry.entry) (found-entry a) in
+    record {
+      element = tested c.typelem.result (subst Nonzero (sym (c.typelem.ensures ∙ ap element_oid c.kind-3.ensures)) b.element);
+      base = refl;
+      subtype = tested c.rngsubtype.result (subst Nonzero (sym (c.rngsubtype.ensures ∙ ap subtype_oid c.kind-4.ensures)) b.subtype);
+      array = tested c.typarray.result (subst Nonzero (sym c.typarray.ensures) (array-nonzero c.args.oid.0));
+      few = (omega arith, omega arith);
+      typed = refl;
+    }
 
 pub returns : goal.returns
 returns c =
-    let a = (goal.at.returns c).In-ok-entry in
+    let a = (goal.at.returns c).In_ok-entry in
     let o : ℕ = c.args.oid.0 in
-    let e : Entry = entry_of c.in-ok-entry.entry in
+    let e : Entry = entry_of c.in_ok-entry.entry in
     let found = found-entry a in
     let same : e.oid ≡ o = (laws.name-finds-again o e found).0 in
     ap Some (row_is e _ _ _ _ _ _
-    (c.in-ok-pretty.ensures ∙ c.name.ensures)
+    (c.in_ok-pretty.ensures ∙ c.name.ensures)
     (c.typtype.ensures ∙ ap typtype_byte c.kind.ensures)
     (c.typcategory.ensures ∙ ap category_byte c.kind-2.ensures)
     (c.typelem.ensures ∙ ap element_oid c.kind-3.ensures)
