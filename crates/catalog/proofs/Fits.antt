@@ -1,11 +1,11 @@
 -- A row of the code is within the limits. Assumes nothing.
-use Rattle.std.proofs.Common.{◌≡◌, ℕ, ◌≤◌, min, Bool, true, false, ◌&&◌, ltb, List, [], ◌∷◌, map, length, take, Some, None, Option, sym, refl, ap, ◌∙◌, subst, arith, length-take, ltb-true}
+use Rattle.std.proofs.Common.{◌≡◌, ℕ, ◌≤◌, Bool, true, false, ◌&&◌, List, [], ◌∷◌, map, length, take, Some, None, Option, refl, arith, length-take, ltb-true}
 use lib.ListN.{length-map}
 use Rattle.type_info.specs.declared.oid.Oid.{Oid}
 use Rattle.catalog.specs.declared.values.Attribute.{Attribute}
 use Rattle.catalog.specs.declared.row.Row.{Row}
 use Rattle.catalog.specs.declared.text.Text.{Text}
-use Rattle.catalog.specs.Catalog.{CatalogRow, RowFits, Each, Sized, Nonzero}
+use Rattle.catalog.specs.Catalog.{RowFits, Each, Sized, Nonzero}
 use Rattle.catalog.specs.Limits.{nonzero, all_typed}
 use Rattle.catalog.specs.Meaning.{text_of, oid_told, attribute_meaning, row_meaning}
 

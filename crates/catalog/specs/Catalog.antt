@@ -1,5 +1,5 @@
 -- What a catalog means. Assumes nothing.
-use Rattle.std.specs.Prelude.{◌≡◌, ℕ, ◌-◌, ◌<◌, ◌≤◌, List, [], ◌∷◌, length, ℤ, Some, None, Option}
+use Rattle.std.specs.Prelude.{◌≡◌, ℕ, ◌-◌, ◌≤◌, List, [], ◌∷◌, length, ℤ, Some, None, Option}
 
 pub record CatalogAttribute : Type 0 where
   pub called : List ℕ

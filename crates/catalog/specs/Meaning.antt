@@ -1,11 +1,11 @@
 -- What a row of the code means. Assumes nothing.
-use Rattle.std.specs.Prelude.{◌≡◌, ℕ, suc, ◌-◌, List, map, take, Some, None, Ok, Err, Option, Result}
+use Rattle.std.specs.Prelude.{ℕ, List, map, take, Some, None, Option}
 use Rattle.type_info.specs.declared.oid.Oid.{Oid}
 use Rattle.catalog.specs.declared.values.Attribute.{Attribute}
 use Rattle.catalog.specs.declared.values.Column.{Column}
 use Rattle.catalog.specs.declared.row.Row.{Row}
 use Rattle.catalog.specs.declared.text.Text.{Text}
-use Rattle.catalog.specs.Catalog.{Catalog, CatalogRow, CatalogAttribute, CatalogColumn}
+use Rattle.catalog.specs.Catalog.{CatalogRow, CatalogAttribute, CatalogColumn}
 
 abbrev pub text_of : {n : ℕ} → Text n → List ℕ
 text_of t = take t.used t.bytes

@@ -1,6 +1,6 @@
 -- The shape of a row: decided by its two codes, in the order of the rules, and by the OIDs that it has.
 -- Assumes nothing.
-use Rattle.std.specs.Prelude.{ℕ, Bool, true, false, cond, ◌&&◌, Some, None, Ok, Err, Option, Result, ◌==◌}
+use Rattle.std.specs.Prelude.{ℕ, cond, ◌&&◌, Some, None, Ok, Err, Option, Result, ◌==◌}
 use Rattle.std.specs.Option.{option_map}
 use Rattle.type_info.specs.declared.oid.Oid.{Oid}
 use Rattle.catalog.specs.declared.codes.TypType.{TypType}

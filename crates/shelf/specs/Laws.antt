@@ -1,10 +1,10 @@
 -- The shelf keeps the laws of a catalog. Assumes nothing.
-use Rattle.std.specs.Prelude.{◌≡◌, ℕ, ◌≤◌, Bool, true, ◌&&◌, List, length, is_some, Some, None, Option, nat_le, refl}
+use Rattle.std.specs.Prelude.{◌≡◌, ℕ, ◌≤◌, Bool, true, ◌&&◌, length, Some, None, Option, nat_le, refl}
 use Rattle.std.proofs.Common.{sym, ap, subst, ◌∙◌, arith, leb-true}
 use Rattle.std.specs.Option.{option_map}
 use Rattle.std.proofs.lemmas.Bool.{and_parts}
-use Rattle.catalog.specs.Catalog.{Catalog, CatalogRow, RowFits, Laws, Sized, Nonzero}
-use Rattle.type_info.specs.Table.{Entry, Kind, simple, pseudo, array, range, types, entries, by_oid, by_name, array_of, has_oid, is_array_of}
+use Rattle.catalog.specs.Catalog.{CatalogRow, RowFits, Laws, Sized, Nonzero}
+use Rattle.type_info.specs.Table.{Entry, types, entries, by_oid, by_name, array_of, has_oid, is_array_of}
 use Rattle.type_info.proofs.Facts.{laws}
 use Rattle.type_info.proofs.First.{all, all-at, first_some, Place}
 use Rattle.shelf.specs.Rows.{element_oid, subtype_oid, shelf_row, shelf_of}

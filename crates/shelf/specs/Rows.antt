@@ -1,6 +1,6 @@
 -- The rows that the shelf works out of the built-in table, and the catalog that it is.
 -- Assumes nothing.
-use Rattle.std.specs.Prelude.{ℕ, List, [], Some, None, Option}
+use Rattle.std.specs.Prelude.{ℕ, [], Some, None, Option}
 use Rattle.std.specs.Option.{option_map}
 use Rattle.catalog.specs.Catalog.{Catalog, CatalogRow}
 use Rattle.type_info.specs.Table.{Entry, Kind, simple, pseudo, array, range, by_oid, by_name, array_of}

@@ -1,10 +1,10 @@
 -- An OID has at most one unfolding, and keeps it as the catalog grows. Assumes nothing.
-use Rattle.std.proofs.Common.{◌≡◌, ℕ, Bool, true, false, cond, ◌&&◌, ◌⊎◌, List, [], ◌∷◌, map, Some, None, Option, sym, refl, ap, ◌∙◌, subst, inl, inr, ⊎_elim}
+use Rattle.std.proofs.Common.{◌≡◌, ℕ, false, List, [], ◌∷◌, Some, sym, refl, ap, ◌∙◌, subst, inl, inr, ⊎_elim}
 use Rattle.unfolding.specs.Lists.{Mem}
 use Rattle.catalog.specs.Catalog.{Catalog, CatalogRow, Grows}
 use Rattle.unfolding.specs.Shapes.{Shape, shape, shape_of_row, formed}
 use Rattle.unfolding.specs.Unfolding.{Tree, built, node, Trees, none, more, Link, Unfolds, UnfoldAll, HasUnfolding, built_in}
-use Rattle.unfolding.proofs.Lists.{not-both, same_some, not-some-none, split-bool, split-option}
+use Rattle.unfolding.proofs.Lists.{not-both, same_some, not-some-none, split-option}
 
 pub formed-row : (c : Catalog) (o : ℕ) (s : Shape) → formed c o ≡ Some s → (r : CatalogRow) × (c.rows o ≡ Some r) × (shape r ≡ Some s)
 unfolding formed

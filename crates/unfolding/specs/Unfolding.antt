@@ -1,6 +1,6 @@
 -- Descriptors as trees, which tree is the unfolding of an OID, and what a request leads to.
 -- Assumes nothing.
-use Rattle.std.specs.Prelude.{◌≡◌, ℕ, Bool, true, false, List, [], ◌∷◌, is_some, Some, None, Option}
+use Rattle.std.specs.Prelude.{◌≡◌, ℕ, Bool, true, false, List, [], ◌∷◌, is_some, Some}
 use Rattle.unfolding.specs.Lists.{Mem}
 use Rattle.catalog.specs.Catalog.{Catalog}
 use Rattle.type_info.specs.Table.{by_oid}

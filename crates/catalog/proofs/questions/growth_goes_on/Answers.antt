@@ -1,5 +1,5 @@
-use Rattle.std.proofs.Common.{◌≡◌, ℕ, ◌-◌, List, sym, ap, ◌∙◌}
-use Rattle.catalog.specs.Catalog.{Catalog, Grows, Opened, spent}
+use Rattle.std.proofs.Common.{ap, ◌∙◌}
+use Rattle.catalog.specs.Catalog.{Catalog, Grows, Opened}
 use Rattle.catalog.proofs.questions.growth_goes_on.Goals as goal
 
 chained : (a b d : Catalog) → Grows a b → Grows b d → Grows a d

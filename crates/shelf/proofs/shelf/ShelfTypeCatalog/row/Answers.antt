@@ -6,10 +6,10 @@ use Rattle.catalog.specs.Limits.{nonzero}
 use Rattle.catalog.specs.Meaning.{oid_told}
 use Rattle.type_info.specs.declared.oid.Oid.{Oid}
 use Rattle.type_info.specs.Meaning.{entry_of}
-use Rattle.type_info.specs.Table.{Entry, Kind, by_oid, array_of}
+use Rattle.type_info.specs.Table.{Entry, by_oid, array_of}
 use Rattle.type_info.proofs.Facts.{laws}
 use Rattle.shelf.specs.Rows.{typtype_byte, category_byte, element_oid, subtype_oid, shelf_row}
-use Rattle.shelf.specs.Laws.{Bounds, bounds, array-nonzero}
+use Rattle.shelf.specs.Laws.{bounds, array-nonzero}
 use Rattle.shelf.proofs.shelf.ShelfTypeCatalog.row.Goals as goal
 use Rattle.shelf.proofs.shelf.ShelfTypeCatalog.row.Goals.{In_ok-entry}
 
