@@ -1,6 +1,6 @@
 -- A row of the code is within the limits. Assumes nothing.
 use Rattle.std.proofs.Common.{◌≡◌, ℕ, ◌≤◌, Bool, true, false, ◌&&◌, List, [], ◌∷◌, map, length, take, Some, None, Option, refl, arith, length-take, ltb-true}
-use lib.ListN.{length-map}
+use Rattle.std.proofs.lemmas.List.{length-map}
 use Rattle.type_info.specs.declared.oid.Oid.{Oid}
 use Rattle.catalog.specs.declared.values.Attribute.{Attribute}
 use Rattle.catalog.specs.declared.row.Row.{Row}

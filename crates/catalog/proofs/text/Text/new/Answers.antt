@@ -1,6 +1,5 @@
 use Rattle.std.proofs.Common.{◌≡◌, ◌<◌, [], ◌∷◌, ◌++◌, length, get_or, take, sym, refl, ap, ◌∙◌, arith, length-set, take_all}
-use lib.ListN.{length-replicate}
-use Rattle.std.proofs.lemmas.List.{take_more, take_more_set}
+use Rattle.std.proofs.lemmas.List.{length-replicate, take_more, take_more_set}
 use Rattle.catalog.proofs.text.Text.new.Goals as goal
 
 pub loop-i-init : goal.loop-i-init
