@@ -36,13 +36,13 @@ few f n m xs h = simp (length-map, length-take) (omega arith)
 
 pub row_fits : (r : Row) → RowFits (row_meaning r)
 row_fits r = record {
-  pretty-fits = text-sized 128 r.pretty;
+  pretty_fits = text-sized 128 r.pretty;
   elem_fits = linked r.typelem r.element;
-  base-fits = linked r.typbasetype r.base;
-  sub-fits = linked r.rngsubtype r.subtype;
-  array-fits = linked r.typarray r.array;
-  labels-few = few text_of r.label_count 64 r.labels r.few.0;
-  labels-fit = labels-sized (take r.label_count r.labels);
-  attributes-few = few attribute_meaning r.attribute_count 64 r.attributes r.few.1;
-  attributes-fit = attributes-sized (take r.attribute_count r.attributes) r.typed;
+  base_fits = linked r.typbasetype r.base;
+  sub_fits = linked r.rngsubtype r.subtype;
+  array_fits = linked r.typarray r.array;
+  labels_few = few text_of r.label_count 64 r.labels r.few.0;
+  labels_fit = labels-sized (take r.label_count r.labels);
+  attributes_few = few attribute_meaning r.attribute_count 64 r.attributes r.few.1;
+  attributes_fit = attributes-sized (take r.attribute_count r.attributes) r.typed;
 }

@@ -39,23 +39,23 @@ Nonzero None = Unit {0}
 Nonzero (Some n) = 1 ≤ n
 
 pub record RowFits (r : CatalogRow) : Type 0 where
-  pub pretty-fits : Sized 128 r.pretty
+  pub pretty_fits : Sized 128 r.pretty
   pub elem_fits : Nonzero r.typelem
-  pub base-fits : Nonzero r.typbasetype
-  pub sub-fits : Nonzero r.rngsubtype
-  pub array-fits : Nonzero r.typarray
-  pub labels-few : length r.labels ≤ 64
-  pub labels-fit : Each (Sized 63) r.labels
-  pub attributes-few : length r.attributes ≤ 64
-  pub attributes-fit : Each (λ a. Sized 63 a.called × (1 ≤ a.typed)) r.attributes
+  pub base_fits : Nonzero r.typbasetype
+  pub sub_fits : Nonzero r.rngsubtype
+  pub array_fits : Nonzero r.typarray
+  pub labels_few : length r.labels ≤ 64
+  pub labels_fit : Each (Sized 63) r.labels
+  pub attributes_few : length r.attributes ≤ 64
+  pub attributes_fit : Each (λ a. Sized 63 a.called × (1 ≤ a.typed)) r.attributes
 
 pub record Laws (c : Catalog) : Type 0 where
   pub nonzero : c.rows 0 ≡ None
   pub rows_fit : (o : ℕ) (r : CatalogRow) → c.rows o ≡ Some r → RowFits r
-  pub names-fit : (s : List ℕ) (o : ℕ) → c.named s ≡ Some o → Sized 128 s
-  pub columns-fit : (o : ℕ) (a : ℤ) (k : CatalogColumn) → c.columns o a ≡ Some k → Sized 128 k.table × Sized 63 k.column
-  pub pretty-leads : (o : ℕ) (r : CatalogRow) → c.rows o ≡ Some r → c.named r.pretty ≡ Some o
-  pub named-stands : (s : List ℕ) (o : ℕ) → c.named s ≡ Some o → (r : CatalogRow) × (c.rows o ≡ Some r)
+  pub names_fit : (s : List ℕ) (o : ℕ) → c.named s ≡ Some o → Sized 128 s
+  pub columns_fit : (o : ℕ) (a : ℤ) (k : CatalogColumn) → c.columns o a ≡ Some k → Sized 128 k.table × Sized 63 k.column
+  pub pretty_leads : (o : ℕ) (r : CatalogRow) → c.rows o ≡ Some r → c.named r.pretty ≡ Some o
+  pub named_stands : (s : List ℕ) (o : ℕ) → c.named s ≡ Some o → (r : CatalogRow) × (c.rows o ≡ Some r)
   pub one_table : (o : ℕ) (a b : ℤ) (k m : CatalogColumn) → c.columns o a ≡ Some k → c.columns o b ≡ Some m → k.table ≡ m.table
 
 -- c with the allowance n
@@ -80,5 +80,5 @@ pub record Spent (n : ℕ) (c d : Catalog) : Type 0 where
 -- what c holds stands unaltered in d
 pub record Grows (c d : Catalog) : Type 0 where
   pub rows_stay : (o : ℕ) (r : CatalogRow) → c.rows o ≡ Some r → d.rows o ≡ Some r
-  pub named-stay : (s : List ℕ) (o : ℕ) → c.named s ≡ Some o → d.named s ≡ Some o
-  pub columns-stay : (o : ℕ) (a : ℤ) (k : CatalogColumn) → c.columns o a ≡ Some k → d.columns o a ≡ Some k
+  pub named_stay : (s : List ℕ) (o : ℕ) → c.named s ≡ Some o → d.named s ≡ Some o
+  pub columns_stay : (o : ℕ) (a : ℤ) (k : CatalogColumn) → c.columns o a ≡ Some k → d.columns o a ≡ Some k

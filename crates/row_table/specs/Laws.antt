@@ -80,15 +80,15 @@ pub table-laws : (t : RowTable) → Laws (meaning_of t)
 table-laws t = record {
   nonzero = ap (row_at t.rows.now) (none_of _ t.zero);
   rows_fit = λ o r e. let w = row-some t.rows.now _ r e in subst RowFits w.2.2 (row_fits w.2.0);
-  names-fit = λ s o e. let w = told-some (names_of t.names s) o e in t.sized s (is_some _ _ w.1);
-  columns-fit = λ o a k e.
+  names_fit = λ s o e. let w = told-some (names_of t.names s) o e in t.sized s (is_some _ _ w.1);
+  columns_fit = λ o a k e.
       let w = column-some ((held_of t).tables o) ((held_of t).column_names o a) k e in
       (text-fits 128 (by_oid t.relations.slots.now o) k.table w.0, text-fits 63 (by_pair t.columns.slots.now o a) k.column w.1);
-  pretty-leads = λ o r e.
+  pretty_leads = λ o r e.
       let w = row-some t.rows.now _ r e in
       let here : pretty_at t.rows.now w.0 ≡ r.pretty = ap pretty_of w.2.1 ∙ ap (λ (k : CatalogRow). k.pretty) w.2.2 in
       ap (λ s. oid_told (names_of t.names s)) (sym here) ∙ led _ o (t.pretty o w.0 w.1);
-  named-stands = λ s o e.
+  named_stands = λ s o e.
       let w = told-some (names_of t.names s) o e in
       row-there t o (subst (λ (n : ℕ). option_is_some (by_oid t.places.slots.now n) ≡ true) w.2 (t.standing s w.0 w.1));
   one_table = λ o a b k m e d. same-table ((held_of t).tables o) ((held_of t).column_names o a) ((held_of t).column_names o b) k m e d;

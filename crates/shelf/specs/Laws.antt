@@ -64,15 +64,15 @@ fits : (o : ℕ) (e : Entry) → by_oid o ≡ Some e → RowFits (shelf_row e)
 fits o e h =
     let b = bounds o e h in
     record {
-      pretty-fits = b.name;
+      pretty_fits = b.name;
       elem_fits = b.element;
-      base-fits = tt;
-      sub-fits = b.subtype;
-      array-fits = array-nonzero e.oid;
-      labels-few = omega arith;
-      labels-fit = tt;
-      attributes-few = omega arith;
-      attributes-fit = tt;
+      base_fits = tt;
+      sub_fits = b.subtype;
+      array_fits = array-nonzero e.oid;
+      labels_few = omega arith;
+      labels_fit = tt;
+      attributes_few = omega arith;
+      attributes_fit = tt;
     }
 
 no_zero : by_oid 0 ≡ None
@@ -83,18 +83,18 @@ pub shelf-laws : (n : ℕ) → Laws (shelf_of n)
 shelf-laws n = record {
   nonzero = ap (option_map shelf_row) no_zero;
   rows_fit = λ o r h. let w = mapped-some shelf_row (by_oid o) r h in subst RowFits w.2 (fits o w.0 w.1);
-  names-fit = λ s o h.
+  names_fit = λ s o h.
       let w = mapped-some (λ (e : Entry). e.oid) (by_name s) o h in
-      let back = laws.oid-finds-again s w.0 w.1 in
+      let back = laws.oid_finds_again s w.0 w.1 in
       subst (Sized 128) back.0 (bounds w.0.oid w.0 back.1).name;
-  columns-fit = λ o a k e. let z : ◌≡◌ {A = ℕ} 0 1 = cc in absurd (omega arith);
-  pretty-leads = λ o r h.
+  columns_fit = λ o a k e. let z : ◌≡◌ {A = ℕ} 0 1 = cc in absurd (omega arith);
+  pretty_leads = λ o r h.
       let w = mapped-some shelf_row (by_oid o) r h in
-      let back = laws.name-finds-again o w.0 w.1 in
+      let back = laws.name_finds_again o w.0 w.1 in
       ap (λ (x : CatalogRow). option_map (λ (e : Entry). e.oid) (by_name x.pretty)) (sym w.2) ∙ ap (option_map (λ (e : Entry). e.oid)) back.1 ∙ ap Some back.0;
-  named-stands = λ s o h.
+  named_stands = λ s o h.
       let w = mapped-some (λ (e : Entry). e.oid) (by_name s) o h in
-      let back = laws.oid-finds-again s w.0 w.1 in
+      let back = laws.oid_finds_again s w.0 w.1 in
       (shelf_row w.0, ap (λ (k : ℕ). option_map shelf_row (by_oid k)) (sym w.2) ∙ ap (option_map shelf_row) back.1);
   one_table = λ o a b k m e d. let z : ◌≡◌ {A = ℕ} 0 1 = cc in absurd (omega arith);
 }

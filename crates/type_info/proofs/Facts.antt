@@ -131,13 +131,13 @@ laws = record {
   pseudos = refl;
   arrays = refl;
   ranges = refl;
-  oids-rise = rising;
-  names-differ = distinct;
-  name-finds-again = λ o e h. let r = first_some (has_oid o) entries e h in (eqb-true e.oid o r.passes, name-again (has_oid o) e r);
-  oid-finds-again = λ n e h. let r = first_some (has_name n) entries e h in ((bytes_eq-Decides e.name n).0 r.passes, oid-again (has_name n) e r);
-  component-stands = λ o p e h is. rw is at (known-again (has_oid o) e (first_some (has_oid o) entries e h));
-  array-is = λ o a h. let r = first_some (is_array_of o) entries a h in (an-array o a.kind r.passes, oid-again (is_array_of o) a r);
-  array-only = λ o a h is.
+  oids_rise = rising;
+  names_differ = distinct;
+  name_finds_again = λ o e h. let r = first_some (has_oid o) entries e h in (eqb-true e.oid o r.passes, name-again (has_oid o) e r);
+  oid_finds_again = λ n e h. let r = first_some (has_name n) entries e h in ((bytes_eq-Decides e.name n).0 r.passes, oid-again (has_name n) e r);
+  component_stands = λ o p e h is. rw is at (known-again (has_oid o) e (first_some (has_oid o) entries e h));
+  array_is = λ o a h. let r = first_some (is_array_of o) entries a h in (an-array o a.kind r.passes, oid-again (is_array_of o) a r);
+  array_only = λ o a h is.
       let r = first_some (has_oid a.oid) entries a h in
       let k : (at r.at).kind ≡ array o = ap (λ (x : Entry). x.kind) r.is ∙ is in
       array_at o r.at (within (has_oid a.oid) a r) k ∙ ap Some r.is;

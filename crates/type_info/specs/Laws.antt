@@ -38,13 +38,13 @@ pub record TableLaws : Type 0 where
   pub pseudos : counted is_pseudo entries ≡ 1
   pub arrays : counted is_array entries ≡ 45
   pub ranges : counted is_range entries ≡ 6
-  pub oids-rise : (i j : ℕ) → i < j → j < 92 → (at i).oid < (at j).oid
-  pub names-differ : (i j : ℕ) → i < 92 → j < 92 → (at i).name ≡ (at j).name → i ≡ j
+  pub oids_rise : (i j : ℕ) → i < j → j < 92 → (at i).oid < (at j).oid
+  pub names_differ : (i j : ℕ) → i < 92 → j < 92 → (at i).name ≡ (at j).name → i ≡ j
   -- what is found by an OID is found by its name, and what is found by a name is found by its OID
-  pub name-finds-again : (o : ℕ) (e : Entry) → by_oid o ≡ Some e → (e.oid ≡ o) × (by_name e.name ≡ Some e)
-  pub oid-finds-again : (n : List ℕ) (e : Entry) → by_name n ≡ Some e → (e.name ≡ n) × (by_oid e.oid ≡ Some e)
+  pub name_finds_again : (o : ℕ) (e : Entry) → by_oid o ≡ Some e → (e.oid ≡ o) × (by_name e.name ≡ Some e)
+  pub oid_finds_again : (n : List ℕ) (e : Entry) → by_name n ≡ Some e → (e.name ≡ n) × (by_oid e.oid ≡ Some e)
   -- what an array or a range is built of stands in the table
-  pub component-stands : (o p : ℕ) (e : Entry) → by_oid o ≡ Some e → component e.kind ≡ Some p → is_some (by_oid p) ≡ true
+  pub component_stands : (o p : ℕ) (e : Entry) → by_oid o ≡ Some e → component e.kind ≡ Some p → is_some (by_oid p) ≡ true
   -- the array of an element is an array of it, and the only one
-  pub array-is : (o : ℕ) (a : Entry) → array_of o ≡ Some a → (a.kind ≡ array o) × (by_oid a.oid ≡ Some a)
-  pub array-only : (o : ℕ) (a : Entry) → by_oid a.oid ≡ Some a → a.kind ≡ array o → array_of o ≡ Some a
+  pub array_is : (o : ℕ) (a : Entry) → array_of o ≡ Some a → (a.kind ≡ array o) × (by_oid a.oid ≡ Some a)
+  pub array_only : (o : ℕ) (a : Entry) → by_oid a.oid ≡ Some a → a.kind ≡ array o → array_of o ≡ Some a

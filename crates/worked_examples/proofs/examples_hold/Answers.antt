@@ -6,8 +6,8 @@ pub returns : goal.returns
 unfolding types entries
 returns c = record {
   int4 = refl;
-  int4-array = refl;
-  int4-range = refl;
+  int4_array = refl;
+  int4_range = refl;
   int2vector = refl;
   unknown = refl;
   zero = refl;

@@ -6,7 +6,7 @@ use Rattle.catalog.proofs.questions.named_row.Goals as goal
 
 leads-back : (m : Catalog) → Laws m → (o : ℕ) (r : Option Row) → row_told r ≡ m.rows o → IfSome r (λ k. m.named (row_meaning k).pretty ≡ Some o)
 leads-back m l o None e = tt
-leads-back m l o (Some k) e = l.pretty-leads o (row_meaning k) (sym e)
+leads-back m l o (Some k) e = l.pretty_leads o (row_meaning k) (sym e)
 
 pub returns : goal.returns
 returns g c =

@@ -53,7 +53,7 @@ returns c =
     let o : ℕ = c.args.oid.0 in
     let e : Entry = entry_of c.in_ok-entry.entry in
     let found = found-entry a in
-    let same : e.oid ≡ o = (laws.name-finds-again o e found).0 in
+    let same : e.oid ≡ o = (laws.name_finds_again o e found).0 in
     ap Some (row_is e _ _ _ _ _ _
     (c.in_ok-pretty.ensures ∙ c.name.ensures)
     (c.typtype.ensures ∙ ap typtype_byte c.kind.ensures)
