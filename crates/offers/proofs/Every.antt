@@ -1,5 +1,5 @@
 -- A loop that reads one after another reads them all, or stops at one that is read as nothing. Assumes nothing.
-use Rattle.std.proofs.Common.{◌≡◌, ℕ, zero, suc, ◌+◌, ◌<◌, ◌≤◌, Bool, true, false, leb, List, [], ◌∷◌, ◌++◌, map, length, get_or, take, set, Some, None, Option, sym, refl, ap, ◌∙◌, arith, take_all}
+use Rattle.std.proofs.Common.{◌≡◌, ℕ, zero, suc, ◌+◌, ◌<◌, ◌≤◌, Bool, true, false, List, [], ◌∷◌, ◌++◌, map, length, get_or, take, set, Some, None, Option, sym, refl, ap, ◌∙◌, arith, take_all}
 use Rattle.std.proofs.lemmas.List.{take_more, take_more_set, map_push}
 use Rattle.std.proofs.lemmas.Bool.{le-leb}
 use Rattle.offers.specs.Offered.{consed, every, few}

@@ -1,5 +1,5 @@
 -- What the parts of a row mean that are read one by one. Assumes nothing.
-use Rattle.std.specs.Prelude.{ℕ, List, map, take, Some, None, Option}
+use Rattle.std.specs.Prelude.{ℕ, List, map, take}
 use Rattle.catalog.specs.Catalog.{CatalogAttribute}
 use Rattle.catalog.specs.Meaning.{text_of, attribute_meaning}
 use Rattle.offers.specs.declared.parts.Labels.{Labels}

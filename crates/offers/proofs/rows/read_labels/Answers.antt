@@ -1,4 +1,4 @@
-use Rattle.std.proofs.Common.{◌≡◌, ◌<◌, length, refl, ap, ◌∙◌, arith, length-set}
+use Rattle.std.proofs.Common.{◌≡◌, length, ap, ◌∙◌, arith, length-set}
 use Rattle.std.specs.Option.{option_map}
 use Rattle.catalog.specs.Meaning.{text_of}
 use Rattle.offers.specs.Offered.{text_at}
@@ -11,13 +11,13 @@ loop-i-preserved c =
     let read = text_at 63 c.args.host.now in
     let i = c.loop-i.i in (
       simp length-set c.loop-i.invariant.0,
-      one_more read text_of c.args.spans.now c.loop-i.items i _ _ c.loop-i-test.true (omega arith) c.loop-i.invariant.1 c.in-ok-items.ensures,
+      one_more read text_of c.args.spans.now c.loop-i.items i _ _ c.loop-i-test.true (omega arith) c.loop-i.invariant.1 c.in_ok-items.ensures,
     )
 
-pub returns-in-err-items : goal.returns-in-err-items
-returns-in-err-items c =
-    ap (option_map labels_meaning) c.from-residual.ensures
-    ∙ one-stops (text_at 63 c.args.host.now) c.args.spans.now c.loop-i.i _ c.if-spans-gt64.false c.loop-i-test.true c.in-err-items.ensures
+pub returns-in_err-items : goal.returns-in_err-items
+returns-in_err-items c =
+    ap (option_map labels_meaning) c.from_residual.ensures
+    ∙ one-stops (text_at 63 c.args.host.now) c.args.spans.now c.loop-i.i _ c.if-spans-gt64.false c.loop-i-test.true c.in_err-items.ensures
 
 pub returns : goal.returns
 returns c =

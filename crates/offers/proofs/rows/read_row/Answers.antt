@@ -45,17 +45,17 @@ row_is host r pretty labels attributes p l a fit =
     ∙ ap (λ (o : Option (List (List ℕ))). row_from r (text_at 128 host r.pretty) o (Some attributes)) l
     ∙ ap (λ (o : Option (List CatalogAttribute)). row_from r (text_at 128 host r.pretty) (few (text_at 63 host) r.labels) o) a
 
-pub invariant-of-result : goal.invariant-of-result
-invariant-of-result c =
-    let fit = links-fit (offer_of c.args.offered) c.if-not-oids-fit.ensures in
-    let labels = c.in-ok-labels.field-0 in
-    let attributes = c.in-ok-attributes.field-0 in
-    (fit.element, (fit.base, (fit.subtype, (fit.array, ((labels.whole, attributes.whole), ((labels.few, attributes.few), (attributes.typed, tt)))))))
+pub invariant_of-result : goal.invariant_of-result
+invariant_of-result c =
+    let fit = links-fit (offer_of c.args.offered) c.if-not-oids_fit.ensures in
+    let labels = c.in_ok-labels.field-0 in
+    let attributes = c.in_ok-attributes.field-0 in
+    record { element = fit.element; base = fit.base; subtype = fit.subtype; array = fit.array; few = (labels.few, attributes.few); typed = attributes.typed }
 
 pub returns : goal.returns
 returns c =
     row_is c.args.host.now (offer_of c.args.offered) _ _ _
-    c.in-ok-pretty.ensures
-    c.in-ok-labels.ensures
-    c.in-ok-attributes.ensures
-    c.if-not-oids-fit.ensures
+    c.in_ok-pretty.ensures
+    c.in_ok-labels.ensures
+    c.in_ok-attributes.ensures
+    c.if-not-oids_fit.ensures

@@ -8,4 +8,4 @@ tested : (r : Bool) (xs ys us vs : List ℕ) → xs ≡ us → ys ≡ vs → Dec
 tested r xs ys us vs p q d = same_from_decides r (bytes_eq us vs) (Decides-like r (λ e. sym p ∙ e ∙ q) (λ e. p ∙ e ∙ sym q) d) (bytes_eq-Decides us vs)
 
 pub returns : goal.returns
-returns g c = tested _ _ _ _ _ c.get.ensures c.get-2.ensures c.same-bytes.ensures
+returns g c = tested _ _ _ _ _ c.get.ensures c.get-2.ensures c.same_bytes.ensures
