@@ -35,9 +35,9 @@ returns-in-37 c = (
   sym (append-nil (vec_items c.args.text.now)),
 )
 
-pub returns-else-is-err : goal.returns-else-is-err
-returns-else-is-err c =
-    decoded c.args.word.now (vec_items c.args.text.now) (vec_items c.decode-bytes-done.new.text) c.decode-bytes-done.result
-    c.if-is-err.ensures.value
+pub returns-else-is_err : goal.returns-else-is_err
+returns-else-is_err c =
+    decoded c.args.word.now (vec_items c.args.text.now) (vec_items c.decode_bytes-done.new.text) c.decode_bytes-done.result
+    c.if-is_err.ensures.value
     (named_other c.args.word.now (search rules) (search rules) (search rules))
-    c.decode-bytes-done.ensures
+    c.decode_bytes-done.ensures

@@ -19,9 +19,9 @@ front-more xs ys zs e =
 pub loop-rest-init : goal.loop-rest-init
 loop-rest-init c = (refl, search (rules, take_all))
 
-pub returns-in-default : goal.returns-in-default
-returns-in-default c =
-    let none = c.in-default.ensures (search rules) in
+pub returns-in_default : goal.returns-in_default
+returns-in_default c =
+    let none = c.in_default.ensures (search rules) in
     (none-from-laid (vec_items c.args.text.now) (unescaped c.args.word.now) (c.loop-rest.invariant.0 ∙ rw none), c.loop-rest.invariant.1)
 
 pub loop-rest-preserved : goal.loop-rest-preserved

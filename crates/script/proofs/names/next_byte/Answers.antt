@@ -26,9 +26,9 @@ at_other (b ∷ []) h e = refl
 at_other (b ∷ (h ∷ [])) le e = refl
 at_other (b ∷ (h ∷ (l ∷ rest))) le e = rw (take_rest (b ∷ (h ∷ (l ∷ rest))) 1, ne_eqb b 37 e)
 
-pub returns-in-ok-hex-byte : goal.returns-in-ok-hex-byte
-returns-in-ok-hex-byte c = (
-  at-percent c.args.written.now c.in-ok-hex-byte.field-0 (search rules) (search rules) c.in-ok-hex-byte.ensures,
+pub returns-in_ok-hex_byte-in-37 : goal.returns-in_ok-hex_byte-in-37
+returns-in_ok-hex_byte-in-37 c = (
+  at-percent c.args.written.now c.in_ok-hex_byte-in-37.field-0 (search rules) (search rules) c.in_ok-hex_byte-in-37.ensures,
   search (rules, places),
 )
 
@@ -37,7 +37,7 @@ returns-in-33-to-126 c =
     let p : plain (get_or c.args.written.now 0 0) ≡ true = grind (arith, nat_tests) in
     (at_other c.args.written.now (search rules) (search rules) ∙ rw p, search (rules, places))
 
-pub returns-in-default : goal.returns-in-default
-returns-in-default c = λ some.
+pub returns-in_default : goal.returns-in_default
+returns-in_default c = λ some.
     let p : plain (get_or c.args.written.now 0 0) ≡ false = grind (arith, nat_tests) in
     at_other c.args.written.now some (search rules) ∙ rw p

@@ -11,8 +11,8 @@ negative : (s : List ℕ) → 1 ≤ length s → get_or s 0 0 ≡ 45 →
 negative [] h e = absurd (omega arith)
 negative (b ∷ bs) h e = rw (eq-eqb b 45 e, take_all (suc (length bs) - 1) bs (omega arith))
 
-pub returns-in-err-number : goal.returns-in-err-number
-returns-in-err-number c = let e = negative c.args.word.now (search rules) (search rules) in search rules
+pub returns-in_err-number-in-45 : goal.returns-in_err-number-in-45
+returns-in_err-number-in-45 c = let e = negative c.args.word.now (search rules) (search rules) in search rules
 
 pub returns-then-number-gt32768 : goal.returns-then-number-gt32768
 returns-then-number-gt32768 c = let e = negative c.args.word.now (search rules) (search rules) in search rules

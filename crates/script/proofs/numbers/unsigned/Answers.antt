@@ -9,10 +9,10 @@ step : (s : List ℕ) (i n : ℕ) (o r : Option ℕ) → i < length s → o ≡ 
 step s i n o r h inv e =
     inv ∙ at_drop_more (number_behind (2 ^ 32) n) s i 0 h ∙ behind_more (2 ^ 32) n (get_or s i 0) (drop (i + 1) s) r e
 
-pub returns-in-err-number : goal.returns-in-err-number
-returns-in-err-number c =
-    rw c.from-residual.ensures
-    (sym (step c.args.word.now c.loop-digit.digit-index c.loop-digit.number _ _ (search rules) c.loop-digit.invariant.0 c.in-err-number.ensures))
+pub returns-in_err-number : goal.returns-in_err-number
+returns-in_err-number c =
+    rw c.from_residual.ensures
+    (sym (step c.args.word.now c.loop-digit.digit-index c.loop-digit.number _ _ (search rules) c.loop-digit.invariant.0 c.in_err-number.ensures))
 
 pub loop-digit-preserved : goal.loop-digit-preserved
 loop-digit-preserved c = (

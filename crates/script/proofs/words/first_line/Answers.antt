@@ -11,8 +11,8 @@ no_lines : (s : List ℕ) → length s ≡ 0 → lines s ≡ []
 no_lines [] e = refl
 no_lines (b ∷ s) e = absurd (omega arith)
 
-pub returns-then-is-empty : goal.returns-then-is-empty
-returns-then-is-empty c = record { first = no_lines c.args.text.now (search rules); shorter = tt }
+pub returns-then-is_empty : goal.returns-then-is_empty
+returns-then-is_empty c = record { first = no_lines c.args.text.now (search rules); shorter = tt }
 
 pub returns-in-Some : goal.returns-in-Some
 returns-in-Some c =
