@@ -1,8 +1,7 @@
 -- What is printed, byte by byte.
 -- Assumes nothing.
-use Rattle.std.specs.Prelude.{ℕ, List, [], ◌∷◌, ◌++◌, Some, None, codes, decimal, Option}
+use Rattle.std.specs.Prelude.{ℕ, List, ◌++◌, Some, None, codes, decimal, Option}
 use Rattle.script.specs.Names.{shown}
-use Rattle.type_info.specs.Meaning.{Declaration, by_its_oid, by_its_name, as_array_of}
 use Rattle.type_info.specs.Table.{Entry, Kind, simple, pseudo, array, range}
 use Rattle.transcript.specs.declared.answers.Reason.{Reason}
 use Rattle.transcript.specs.declared.answers.Reason.TheVariants.{NoSuchLine, WordCount, NotANumber, NotAName, NotAnEntry}

@@ -1,4 +1,4 @@
-use Rattle.std.proofs.Common.{◌≡◌, ℕ, ◌≤◌, true, false, List, [], ◌∷◌, ◌++◌, length, get_or, is_err, Some, None, Ok, Err, vec_items, codes, Option, Result, sym, refl, ap, ◌∙◌, ⊎_elim, append-nil, arith, rules}
+use Rattle.std.proofs.Common.{◌≡◌, ℕ, ◌≤◌, false, List, [], ◌∷◌, ◌++◌, length, get_or, is_err, Some, None, Ok, Err, vec_items, codes, Option, Result, sym, refl, ap, ◌∙◌, ⊎_elim, append-nil, arith, rules}
 use Rattle.std.specs.Str.{bytes_eq}
 use Rattle.std.proofs.lemmas.Slice.Eq.{text_from_reads, bytes_eq-Decides}
 use Rattle.std.proofs.lemmas.Bool.{true≢false, ne_eqb, cases_Bool, cond-false}

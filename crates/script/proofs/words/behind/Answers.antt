@@ -1,4 +1,5 @@
-use Rattle.std.proofs.Common.{◌≡◌, ℕ, Bool, true, false, cond, eqb, List, [], ◌∷◌, ◌++◌, Some, None, Option, sym, refl, ap, ◌∙◌, ⊎_elim, Bor, MatchOption}
+use Rattle.std.proofs.Common.{◌≡◌, ℕ, ◌+◌, true, false, List, [], ◌∷◌, ◌++◌, length, take, drop, Some, None, Option, sym, refl, ap, ◌∙◌, ⊎_elim, Bor, MatchOption, eqb, rules}
+use Rattle.std.specs.Cmp.Lexicographic.{pointwise}
 use Rattle.std.specs.Option.{option_map}
 use Rattle.std.proofs.lemmas.Slice.Eq.{strip_prefix_is}
 use Rattle.std.proofs.lemmas.Bool.{eq-eqb, ne_eqb, cases_eq}
@@ -21,5 +22,12 @@ told : (p s : List ℕ) (r : Option (Bor (List ℕ))) → MatchOption r ((rest :
 told p s None never = absent p s never
 told p s (Some x) e = sym (found p x.now) ∙ ap (behind_prefix p) (sym e)
 
+-- what `strip_prefix` tells
+stripped : (p s : List ℕ) (r : Option (Bor (List ℕ))) →
+    MatchOption r (pointwise eqb (take (length p) s) p ≡ false)
+    (λ x. (pointwise eqb (take (length p) s) p ≡ true) × (x.now ≡ drop (length p) s) × (length x.now + length p ≡ length s)) →
+    option_map (λ x. x.now) r ≡ behind_prefix p s
+stripped p s r e = told p s r (strip_prefix_is Decides-eqb s p r e)
+
 pub returns : goal.returns
-returns c = told c.args.prefix.now c.args.word.now c.strip_prefix.result (strip_prefix_is Decides-eqb c.args.word.now c.args.prefix.now c.strip_prefix.result c.strip_prefix.ensures.cases)
+returns c = search (rules, stripped)

@@ -1,5 +1,5 @@
 use Rattle.std.proofs.Common.{◌≡◌, ℕ, ◌-◌, ◌<◌, List, [], ◌∷◌, length, take, drop, refl, ap, ◌∙◌, arith, rules}
-use Rattle.std.proofs.lemmas.List.{take_rest, drop_all, places}
+use Rattle.std.proofs.lemmas.List.{take_rest, drop_all}
 use Rattle.script.specs.Words.{lines}
 use Rattle.script.proofs.Lines.{lines-first, lines-last}
 use Rattle.script.proofs.words.first_line.Goals as goal

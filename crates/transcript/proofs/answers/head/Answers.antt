@@ -14,5 +14,5 @@ in_parts e o n k p q r = cc
 pub returns : goal.returns
 returns c =
     same (in_parts (entry_of c.args.entry) c.oid.result.0 c.name.result.now _ c.oid.ensures c.name.ensures c.kind.ensures)
-    (then c.in-ok-number.ensures (then c.in-ok-text.ensures (then c.in-ok-name.ensures
-    (then c.in-ok-text-2.ensures c.in-ok-kind.ensures))))
+    (then c.in_ok-number.ensures (then c.in_ok-text.ensures (then c.in_ok-name.ensures
+    (then c.in_ok-text-2.ensures c.in_ok-kind.ensures))))

@@ -1,7 +1,7 @@
 use Rattle.transcript.proofs.answers.why_not.Goals as goal
 
 pub returns-in-NotANumber : goal.returns-in-NotANumber
-returns-in-NotANumber c = rw c.in-NotANumber.is c.text_in-NotANumber.ensures
+returns-in-NotANumber c = rw c.in-NotANumber.is c.text-in-NotANumber.ensures
 
 pub returns-in-NotAnEntry : goal.returns-in-NotAnEntry
-returns-in-NotAnEntry c = rw c.in-NotAnEntry.is c.text_in-NotAnEntry.ensures
+returns-in-NotAnEntry c = rw c.in-NotAnEntry.is c.text-in-NotAnEntry.ensures

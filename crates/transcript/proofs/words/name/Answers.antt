@@ -9,6 +9,6 @@ in_parts : (s : List ℕ) → 1 ≤ length s → shown_first (get_or s 0 0) ++ f
 in_parts [] h = absurd (omega arith)
 in_parts (b ∷ bs) h = ap (λ (t : List ℕ). shown_first b ++ flat_map shown_byte t) (take_all (suc (length bs) - 1) bs (omega arith))
 
-pub returns-in-ok-further-bytes : goal.returns-in-ok-further-bytes
-returns-in-ok-further-bytes c =
-    same (in_parts c.args.bytes.now (search rules)) (then c.in-ok-first-byte.ensures c.in-ok-further-bytes.ensures)
+pub returns-in_ok-further_bytes-in-len1-up : goal.returns-in_ok-further_bytes-in-len1-up
+returns-in_ok-further_bytes-in-len1-up c =
+    same (in_parts c.args.bytes.now (search rules)) (then c.in_ok-first_byte-in-len1-up.ensures c.in_ok-further_bytes-in-len1-up.ensures)
