@@ -1,6 +1,6 @@
 -- How a session counts the lines of a script.
 -- Assumes nothing.
-use Rattle.std.specs.Prelude.{◌≡◌, ℕ, Bool, true, false, cond, List, [], ◌∷◌, is_err, Result}
+use Rattle.std.specs.Prelude.{◌≡◌, ℕ, cond, List, [], ◌∷◌, is_err, Result}
 use Rattle.script.specs.Words.{words}
 use Rattle.transcript.specs.declared.answers.Reason.{Reason}
 use Rattle.session.specs.Lines.{reply, is_comment, one_more}

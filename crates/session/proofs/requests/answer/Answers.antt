@@ -1,4 +1,4 @@
-use Rattle.std.proofs.Common.{◌≡◌, ℕ, Bool, true, false, cond, List, Ok, Err, vec_items, codes, Result, sym, refl, ◌∙◌, subst}
+use Rattle.std.proofs.Common.{◌≡◌, ℕ, true, false, List, Err, vec_items, codes, Result, sym, refl, ◌∙◌, subst}
 use Rattle.std.specs.Str.{bytes_eq}
 use Rattle.transcript.specs.declared.answers.Reason.{Reason}
 use Rattle.transcript.specs.declared.answers.Reason.TheVariants.{NoSuchLine}
@@ -18,9 +18,9 @@ module _ (verb : List ℕ) (ws : List (List ℕ)) (not_first : bytes_eq verb (co
 
 pub returns-then-same-2 : goal.returns-then-same-2
 returns-then-same-2 c =
-    subst (λ (told : Result (List ℕ) Reason). Replies told (vec_items c.args.out.now) (vec_items c.builtin-name.new.out) c.builtin-name.result)
+    subst (λ (told : Result (List ℕ) Reason). Replies told (vec_items c.args.out.now) (vec_items c.builtin_name.new.out) c.builtin_name.result)
     (second c.args.verb.now (words c.args.rest.now) (sym c.same.ensures ∙ c.if-same.false) (sym c.same-else-same.ensures ∙ c.if-same-2.true))
-    c.builtin-name.ensures
+    c.builtin_name.ensures
 
 pub returns-then-same-3 : goal.returns-then-same-3
 returns-then-same-3 c =

@@ -21,11 +21,11 @@ returns c =
     let line : List ℕ = c.args.line.now in
     let verb : List ℕ = c.in-Some.verb.now in
     let ws : List (List ℕ) = words c.in-Some.rest.now in
-    let asks : is_comment verb ≡ false = sym c.is-comment.ensures ∙ c.if-is-comment.false in
+    let asks : is_comment verb ≡ false = sym c.is_comment.ensures ∙ c.if-is_comment.false in
     record {
-      prints = same (all-printed line verb ws c.in-Some.ensures.first asks c.saturating-add-self.result c.args.self.now.read c.saturating-add-self.ensures)
-          (then c.in-ok-echo.ensures c.in-ok-answer-line.ensures.prints);
-      counts = c.in-ok-answer-line.ensures.counts
-          ∙ all-counted line verb ws c.in-Some.ensures.first asks (counts_of c.args.self.now) c.saturating-add-self.result c.saturating-add-self-2.result
-          c.saturating-add-self.ensures c.saturating-add-self-2.ensures;
+      prints = same (all-printed line verb ws c.in-Some.ensures.first asks c.saturating_add-self.result c.args.self.now.read c.saturating_add-self.ensures)
+          (then c.in_ok-echo.ensures c.in_ok-answer_line.ensures.prints);
+      counts = c.in_ok-answer_line.ensures.counts
+          ∙ all-counted line verb ws c.in-Some.ensures.first asks (counts_of c.args.self.now) c.saturating_add-self.result c.saturating_add-self-2.result
+          c.saturating_add-self.ensures c.saturating_add-self-2.ensures;
     }

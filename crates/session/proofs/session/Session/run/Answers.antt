@@ -1,10 +1,10 @@
-use Rattle.std.proofs.Common.{◌≡◌, ℕ, ◌<◌, ◌≤◌, Bool, true, false, cond, eqb, ◌⊎◌, List, [], ◌∷◌, ◌++◌, length, vec_items, vec_len, sym, refl, ap, ◌∙◌, inl, inr, ⊎_elim, append_assoc, arith}
+use Rattle.std.proofs.Common.{◌≡◌, ℕ, ◌<◌, ◌≤◌, true, false, cond, eqb, ◌⊎◌, List, [], ◌∷◌, ◌++◌, length, vec_items, vec_len, refl, ap, ◌∙◌, inl, inr, ⊎_elim, append_assoc, arith}
 use Rattle.script.specs.Words.{lines, onto_first, words}
 use Rattle.transcript.specs.Appends.{Behind}
 use Rattle.session.specs.Counts.{Counts, all_counted, counted, counts_of, replied}
 use Rattle.session.specs.Lines.{all_printed, is_comment, one_more, printed, reply}
 use Rattle.session.proofs.session.Session.run.Goals as goal
-use Rattle.session.proofs.session.Session.run.Goals.{else-loop-rest-test, then-loop-rest-test+in-default}
+use Rattle.session.proofs.session.Session.run.Goals.{else-loop-rest-test, then-loop-rest-test+in_default}
 
 abbrev skipped : Counts → Counts
 skipped c = record { read = one_more c.read; echoed = c.echoed; misread = c.misread }
@@ -59,9 +59,9 @@ loop-rest-preserved c =
     let line : List ℕ = c.in-Some.line.now in
     let further : List (List ℕ) = lines c.in-Some.further.now in
     let split = c.in-Some.ensures.first in
-    let counts = c.in-ok-line.ensures.counts in (
+    let counts = c.in_ok-line.ensures.counts in (
       line-printed (vec_items c.loop-rest.out) (vec_items c.line.new.out) line c.loop-rest.self.read c.line.new.self.read (lines c.loop-rest.rest.now) further
-          c.in-ok-line.ensures.prints (ap (λ (x : Counts). x.read) counts ∙ one-read (counts_of c.loop-rest.self) (words line)) split
+          c.in_ok-line.ensures.prints (ap (λ (x : Counts). x.read) counts ∙ one-read (counts_of c.loop-rest.self) (words line)) split
           ∙ c.loop-rest.invariant.0,
       line-counted (counts_of c.loop-rest.self) (counts_of c.line.new.self) line (lines c.loop-rest.rest.now) further counts split ∙ c.loop-rest.invariant.1,
       inl (let l = c.in-Some.ensures.shorter in ⊎_elim (λ k. omega arith) (λ k. omega (arith, k.0)) c.loop-rest.invariant.2),
@@ -73,7 +73,7 @@ returns c =
     let rest : List ℕ = c.loop-rest.rest.now in
     let ended : (c.args.enough ≤ out) ⊎ (length rest ≡ 0) = elim c.loop-rest-test.branch [
       | else-loop-rest-test w ↦ inl (omega (arith, w.loop-rest-test.false))
-      | then-loop-rest-test+in-default w ↦ inr (no_bytes rest w.in-default.ensures.first)
+      | then-loop-rest-test+in_default w ↦ inr (no_bytes rest w.in_default.ensures.first)
     ] in
     record {
       prints = c.loop-rest.invariant.0;
