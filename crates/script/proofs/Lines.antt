@@ -1,6 +1,6 @@
 -- A line or a word and what follows it, and a text at a separator.
 use Rattle.std.proofs.Common.{◌≡◌, ℕ, suc, ◌+◌, ◌-◌, ◌<◌, List, [], ◌∷◌, ◌++◌, length, get_or, take, drop, sym, refl, arith, rules}
-use Rattle.std.specs.List.{AllByRecursion as All}
+use Rattle.std.specs.List.{AllByRecursion}
 use Rattle.std.proofs.lemmas.List.{take_rest, drop_more, take-append-drop, places}
 use Rattle.std.proofs.lemmas.Bool.{eq-eqb, ne_eqb}
 use Rattle.script.specs.Words.{Absent, joined, lines, words}
@@ -35,7 +35,7 @@ alone : (b c : ℕ) (cs : List ℕ) (ws : List (List ℕ)) → c ≡ 32 → join
 alone b c cs [] e = refl
 alone b c cs (w ∷ ws) e = rw (eq-eqb c 32 e)
 
-pub words-first : (w r : List ℕ) → 0 < length w → All (λ b. b ≡ 32 → ⊥) w → (0 < length r → get_or r 0 0 ≡ 32) →
+pub words-first : (w r : List ℕ) → 0 < length w → AllByRecursion (λ b. b ≡ 32 → ⊥) w → (0 < length r → get_or r 0 0 ≡ 32) →
     words (w ++ r) ≡ w ∷ words r
 words-first [] r some all at = absurd (omega arith)
 words-first (b ∷ []) [] some all at = rw (ne_eqb b 32 all.0)

@@ -1,6 +1,6 @@
 -- What is printed of a name is read as that name.
 use Rattle.std.proofs.Common.{◌≡◌, ℕ, ◌+◌, ◌*◌, ◌/◌, ◌%◌, ◌<◌, true, false, eqb, List, [], ◌∷◌, ◌++◌, Some, refl, ap, ◌∙◌, ⊎_elim, arith}
-use Rattle.std.specs.List.{flat_map, AllByRecursion as All}
+use Rattle.std.specs.List.{flat_map, AllByRecursion}
 use Rattle.std.proofs.lemmas.Bool.Decides.{nat_tests}
 use Rattle.std.proofs.lemmas.Bool.{cases_Bool, and_right}
 use Rattle.script.specs.Names.{plain, hex_digit, hex_upper, consed, unescaped, named, escape_of, shown_byte, shown_first, ShownReadsBack}
@@ -27,7 +27,7 @@ unescaped-byte : (b : ℕ) (t : List ℕ) → b < 256 → unescaped (shown_byte 
 unescaped-byte b t h =
     ⊎_elim (λ p. rw p (unescaped-plain b t p)) (λ p. rw p (unescaped-escape_of b t h)) (cases_Bool (plain b))
 
-unescaped-bytes : (bs : List ℕ) → All (λ b. b < 256) bs → unescaped (flat_map shown_byte bs) ≡ Some bs
+unescaped-bytes : (bs : List ℕ) → AllByRecursion (λ b. b < 256) bs → unescaped (flat_map shown_byte bs) ≡ Some bs
 unescaped-bytes [] h = refl
 unescaped-bytes (b ∷ bs) h = rw (unescaped-byte b (flat_map shown_byte bs) h.0, unescaped-bytes bs h.1)
 

@@ -2,7 +2,7 @@
 -- Assumes nothing.
 use Rattle.std.specs.Prelude.{◌≡◌, ℕ, ◌+◌, ◌-◌, ◌*◌, ◌/◌, ◌%◌, ◌<◌, Bool, cond, not, ◌&&◌, List, [], ◌∷◌, ◌++◌, length, take, Some, None, Ok, Err, codes, Option, Result, ◌==◌, nat_le, nat_lt}
 use Rattle.std.specs.Borrow.{Bor}
-use Rattle.std.specs.List.{flat_map, AllByRecursion as All}
+use Rattle.std.specs.List.{flat_map, AllByRecursion}
 use Rattle.std.specs.Str.{bytes_eq}
 use Rattle.script.specs.declared.names.NameFault.{NameFault}
 use Rattle.script.specs.declared.names.NameFault.TheVariants.{NotAName, OutOfMemory}
@@ -95,4 +95,4 @@ shown (b ∷ bs) = shown_first b ++ flat_map shown_byte bs
 
 -- what is printed of a name is read as that name
 abbrev pub ShownReadsBack : Type 0
-ShownReadsBack = (name : List ℕ) → All (λ b. b < 256) name → named (shown name) ≡ Some name
+ShownReadsBack = (name : List ℕ) → AllByRecursion (λ b. b < 256) name → named (shown name) ≡ Some name
