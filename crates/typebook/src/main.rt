@@ -6,6 +6,7 @@ ghost use Rattle.std.specs.Prelude.{◌≡◌, vec_len, OnOk};
 use anyhow::anyhow;
 use session::session::Session;
 use std::io::{Read, Write};
+use std::process::ExitCode;
 use std::{env, fs, io};
 
 // Where this much has been printed it is written out.
@@ -68,15 +69,22 @@ fn run(rt: &HostRuntime, text: &[u8]) -> anyhow::Result<bool> {
     Ok(session.all_understood())
 }
 
-fn main(rt: HostRuntime) -> anyhow::Result<()> {
-    let text = read_script(&rt)?;
-    match run(&rt, text.as_slice()) {
-        Ok(true) => Ok(()),
-        // what was not understood stands in the output; the status says so
-        Ok(false) => Err(anyhow!("not understood")),
+// Runs the script and tells whether every line was understood. What went wrong is said where it is known.
+fn carry_out(rt: &HostRuntime) -> anyhow::Result<bool> {
+    let text = read_script(rt)?;
+    match run(rt, text.as_slice()) {
+        Ok(understood) => Ok(understood),
         Err(e) => {
             eprintln!(rt; "typebook: {e}")?;
             Err(e)
         }
+    }
+}
+
+fn main(rt: HostRuntime) -> ExitCode {
+    match carry_out(&rt) {
+        Ok(true) => ExitCode::SUCCESS,
+        // what was not understood stands in the output; the status says so
+        Ok(false) | Err(_) => ExitCode::FAILURE,
     }
 }
