@@ -14,15 +14,12 @@ use type_info::oid::Oid;
 pub extern "C" fn builtin_kind(oid: u32) -> u32
     ensures { result ≡ kind_told (by_oid oid) }
 {
-    match builtin::by_oid(Oid(oid)) {
-        None => 0,
-        Some(entry) => match entry.kind() {
-            BuiltInKind::Simple => 1,
-            BuiltInKind::Pseudo => 2,
-            BuiltInKind::Array(_) => 3,
-            BuiltInKind::Range(_) => 4,
-        },
-    }
+    builtin::by_oid(Oid(oid)).map_or(0, |entry| match entry.kind() {
+        BuiltInKind::Simple => 1,
+        BuiltInKind::Pseudo => 2,
+        BuiltInKind::Array(_) => 3,
+        BuiltInKind::Range(_) => 4,
+    })
 }
 
 // The element type of an array or the subtype of a range; 0 where there is none.
@@ -30,13 +27,10 @@ pub extern "C" fn builtin_kind(oid: u32) -> u32
 pub extern "C" fn builtin_component(oid: u32) -> u32
     ensures { result ≡ component_told (by_oid oid) }
 {
-    match builtin::by_oid(Oid(oid)) {
-        None => 0,
-        Some(entry) => match entry.kind() {
-            BuiltInKind::Simple | BuiltInKind::Pseudo => 0,
-            BuiltInKind::Array(of) | BuiltInKind::Range(of) => of.0,
-        },
-    }
+    builtin::by_oid(Oid(oid)).map_or(0, |entry| match entry.kind() {
+        BuiltInKind::Simple | BuiltInKind::Pseudo => 0,
+        BuiltInKind::Array(of) | BuiltInKind::Range(of) => of.0,
+    })
 }
 
 // The built-in array type over an element type; 0 where there is none.
@@ -44,10 +38,7 @@ pub extern "C" fn builtin_component(oid: u32) -> u32
 pub extern "C" fn builtin_array_of(element: u32) -> u32
     ensures { result ≡ oid_told (array_of element) }
 {
-    match builtin::array_of(Oid(element)) {
-        None => 0,
-        Some(entry) => entry.oid().0,
-    }
+    builtin::array_of(Oid(element)).map_or(0, |entry| entry.oid().0)
 }
 
 // How many bytes the name has; 0 where the OID is not built in.
@@ -55,10 +46,7 @@ pub extern "C" fn builtin_array_of(element: u32) -> u32
 pub extern "C" fn builtin_name_length(oid: u32) -> usize
     ensures { result ≡ length (name_told (by_oid oid)) }
 {
-    match builtin::by_oid(Oid(oid)) {
-        None => 0,
-        Some(entry) => entry.name().len(),
-    }
+    builtin::by_oid(Oid(oid)).map_or(0, |entry| entry.name().len())
 }
 
 // Copies the name to the start of `buffer` and tells its length. A shorter buffer is left as it was.
@@ -67,17 +55,15 @@ pub extern "C" fn builtin_name(oid: u32, buffer: &mut [u8]) -> usize
     ensures told { result ≡ length (name_told (by_oid oid)) }
     ensures after { buffer.new ≡ laid_over (name_told (by_oid oid)) buffer.old }
 {
-    match builtin::by_oid(Oid(oid)) {
-        None => 0,
-        Some(entry) => {
-            let name = entry.name();
-            let length = name.len();
-            if length <= buffer.len() {
-                buffer[0..length].copy_from_slice(name);
-            }
-            length
-        }
+    let Some(entry) = builtin::by_oid(Oid(oid)) else {
+        return 0;
+    };
+    let name = entry.name();
+    let length = name.len();
+    if length <= buffer.len() {
+        buffer[..length].copy_from_slice(name);
     }
+    length
 }
 
 // The OID of a built-in type by its name; 0 where no built-in type has it.
@@ -85,8 +71,5 @@ pub extern "C" fn builtin_name(oid: u32, buffer: &mut [u8]) -> usize
 pub extern "C" fn builtin_oid(name: &[u8]) -> u32
     ensures { result ≡ oid_told (by_name name.now) }
 {
-    match builtin::by_name(name) {
-        None => 0,
-        Some(entry) => entry.oid().0,
-    }
+    builtin::by_name(name).map_or(0, |entry| entry.oid().0)
 }

@@ -1,12 +1,15 @@
 -- The table's rules, each by one test that antt computes over the whole table, and what follows from them.
 -- Assumes nothing.
-use Rattle.std.proofs.Common.{◌≡◌, ℕ, ◌<◌, ◌≤◌, Bool, true, false, not, ltb, length, is_some, Some, None, Option, sym, refl, ap, ◌∙◌, subst, ⊎_elim, arith}
+use Rattle.std.proofs.Common.{◌≡◌, ℕ, ◌<◌, ◌≤◌, Bool, true, false, not, ltb, List, [], length, is_some, Some, None, Option, Bor, sym, refl, ap, ◌∙◌, subst, ⊎_elim, arith}
+use Rattle.std.specs.List.{AllWithin, HoldsAt}
+use Rattle.std.specs.Option.{MatchOption, option_copied}
 use Rattle.std.specs.Str.{bytes_eq}
 use Rattle.std.proofs.lemmas.Slice.Eq.{bytes_eq-Decides}
 use Rattle.std.proofs.lemmas.Bool.{eqb-true, ltb-true, eq-eqb, ne_eqb, not-true, cases_order, both_ways}
 use Rattle.type_info.specs.Table.{Entry, Kind, simple, pseudo, array, range, types, entries, at, first, has_oid, has_name, is_array_of, array_kind, by_oid, by_name, array_of, component}
 use Rattle.type_info.specs.declared.builtin.BuiltIn.{BuiltIn}
-use Rattle.type_info.specs.Meaning.{entry_of}
+use Rattle.type_info.specs.declared.builtin.BuiltInKind.TheVariants.{Simple}
+use Rattle.type_info.specs.Meaning.{Lists, entry_of, found}
 use Rattle.type_info.specs.Laws.{TableLaws}
 use Rattle.type_info.proofs.First.{first-at, first-none, first_some, Place, all, all-at, pairs, pairs-at}
 
@@ -122,6 +125,26 @@ hit p e i h is t f =
 -- and where none does
 pub miss : (p : Entry → Bool) → ((k : ℕ) → k < 92 → p (at k) ≡ false) → None ≡ first p entries
 miss p f = sym (first-none p entries (λ k h. f k (rw len at h)))
+
+-- what stands past the end of the program's table
+abbrev pub blank : BuiltIn
+blank = (record { 0 = 0 }, record { ref_ptr = (0, 0); now = [] }, Simple)
+
+-- what a search of the program's table by a test tells
+abbrev pub FirstFound : (Entry → Bool) → List BuiltIn → Option (Bor BuiltIn) → Type 0
+FirstFound p t r =
+    MatchOption r (AllWithin (λ b. p (entry_of b) ≡ false) t 0 (length t))
+    (λ x. (p (entry_of x.now) ≡ true) × (i : ℕ) × (i < length t) × HoldsAt (λ y. y ≡ x.now) t i × AllWithin (λ b. p (entry_of b) ≡ false) t 0 i)
+
+module _ (p : Entry → Bool) (t : List BuiltIn) (n : length t ≡ 92) (s : Lists t) where
+  fails : (d : BuiltIn) (m : ℕ) → m ≤ 92 → AllWithin (λ b. p (entry_of b) ≡ false) t 0 m → (k : ℕ) → k < m → p (at k) ≡ false
+  fails d m l f k h = subst (λ (x : Entry). p x ≡ false) (s k d (omega arith)) (f k d (omega arith) h)
+
+  pub first_found : (r : Option (Bor BuiltIn)) → FirstFound p t r → found (option_copied r) ≡ first p entries
+  first_found None f = miss p (fails blank 92 (omega arith) (subst (λ m. AllWithin (λ b. p (entry_of b) ≡ false) t 0 m) n f))
+  first_found (Some x) f =
+      let h : f.1 < 92 = omega (arith, n, f.2) in
+      hit p x.now f.1 h (ap entry_of (sym (f.3 blank)) ∙ s f.1 blank h) f.0 (fails blank f.1 (omega arith) f.4)
 
 pub laws : TableLaws
 unfolding types entries

@@ -16,7 +16,7 @@ pub enum BuiltInKind {
 }
 
 // A settled type that every catalog knows: its OID, its name and its kind.
-#[derive(Clone, Copy)]
+#[derive(Clone, Copy, PartialEq, Eq, Debug)]
 pub struct BuiltIn(
     pub(crate) Oid,
     pub(crate) &'static [u8],
@@ -80,50 +80,20 @@ pub fn by_oid(oid: Oid) -> Option<BuiltIn>
     ensures { found result ≡ by_oid oid.0 }
 {
     let entries = table();
-    // the entries before `low` have OIDs up to the one that is sought, those from `high` on larger ones
-    let mut low = 0;
-    let mut high = entries.len();
-    while low < high {
-        let middle = low + (high - low) / 2;
-        if entries[middle].0.0 <= oid.0 {
-            low = middle + 1;
-        } else {
-            high = middle;
-        }
-    }
-    if low == 0 {
-        return None;
-    }
-    let entry = entries[low - 1];
-    if entry.0.0 == oid.0 {
-        Some(entry)
-    } else {
-        None
-    }
+    let place = entries.binary_search_by(|entry| entry.0.cmp(&oid)).ok()?;
+    Some(entries[place])
 }
 
 pub fn by_name(name: &[u8]) -> Option<BuiltIn>
     ensures { found result ≡ by_name name.now }
 {
-    let entries = table();
-    for i in 0..entries.len() {
-        if entries[i].1 == name {
-            return Some(entries[i]);
-        }
-    }
-    None
+    table().iter().find(|entry| entry.1 == name).copied()
 }
 
 // The array type over an element type.
 pub fn array_of(element: Oid) -> Option<BuiltIn>
     ensures { found result ≡ array_of element.0 }
 {
-    for entry in table() {
-        if let BuiltInKind::Array(of) = entry.2 {
-            if of.0 == element.0 {
-                return Some(*entry);
-            }
-        }
-    }
-    None
+    let over = BuiltInKind::Array(element);
+    table().iter().find(|entry| entry.2 == over).copied()
 }

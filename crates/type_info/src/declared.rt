@@ -1,25 +1,15 @@
 // A type as a program declares it, before a catalog has told what it is. It has no kind.
 ghost use Rattle.std.specs.Prelude.{◌≡◌};
 ghost use Rattle.std.specs.Option.{option_map};
-ghost use Rattle.type_info.specs.Meaning.{after_underscore, as_array_of, by_its_name, by_its_oid, declaration_of, element_name};
+ghost use Rattle.type_info.specs.Meaning.{as_array_of, by_its_name, by_its_oid, declaration_of, element_name};
 
 use crate::oid::Oid;
 
-#[derive(Clone, Copy)]
+#[derive(Clone, Copy, PartialEq, Eq, Debug)]
 pub enum Declared<'a> {
     Oid(Oid),
     Name(&'a [u8]),
     ArrayOf(&'a [u8]),
-}
-
-// What follows the underscore that PostgreSQL puts before an element's name to name its array.
-fn after_underscore(name: &[u8]) -> Option<&[u8]>
-    ensures { option_map (λ x. x.now) result ≡ after_underscore name.now }
-{
-    match name {
-        [b'_', rest @ ..] => Some(rest),
-        _ => None,
-    }
 }
 
 impl<'a> Declared<'a> {
@@ -47,7 +37,8 @@ impl<'a> Declared<'a> {
     {
         match self {
             Declared::Oid(_) => None,
-            Declared::Name(bytes) => after_underscore(bytes),
+            // PostgreSQL names an array by an underscore and its element's name
+            Declared::Name(bytes) => bytes.strip_prefix(b"_"),
             Declared::ArrayOf(bytes) => Some(bytes),
         }
     }

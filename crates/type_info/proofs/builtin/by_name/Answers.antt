@@ -1,23 +1,14 @@
-use Rattle.std.proofs.Common.{◌≡◌, ℕ, ◌<◌, false, List, get_or, sym, ◌∙◌, subst, arith, below_more}
-use Rattle.type_info.specs.Table.{Entry, at, has_name}
-use Rattle.type_info.proofs.Facts.{hit, miss}
+use Rattle.std.proofs.Common.{◌≡◌, true, false, ap, ◌∙◌, rules}
+use Rattle.std.proofs.lemmas.Iterator.{YieldsList-from_slice, first_from_find}
+use borrow.Author.Tests.{tests}
+use Rattle.type_info.specs.Meaning.{entry_of, found}
+use Rattle.type_info.specs.Table.{has_name}
+use Rattle.type_info.proofs.Facts.{first_found}
 use Rattle.type_info.proofs.builtin.by_name.Goals as goal
 
-pub returns-then-eq : goal.returns-then-eq
-returns-then-eq c =
-    let i : ℕ = c.loop-i.i in
-    let h : i < 92 = omega arith in
-    hit (has_name c.args.name.now) (get_or c.table-entries.result.now i _) i h (c.table-entries.ensures.places i _ h)
-    (sym c.eq.ensures ∙ c.if-eq.true) c.loop-i.invariant
-
-pub loop-i-preserved : goal.loop-i-preserved
-loop-i-preserved c =
-    let i : ℕ = c.loop-i.i in
-    let n : List ℕ = c.args.name.now in
-    let h : i < 92 = omega arith in
-    below_more (λ k. has_name n (at k) ≡ false) i c.loop-i.invariant
-    (subst (λ (x : Entry). has_name n x ≡ false) (c.table-entries.ensures.places i _ h)
-    (sym c.eq.ensures ∙ c.if-eq.false))
-
 pub returns : goal.returns
-returns c = miss (has_name c.args.name.now) (λ k l. c.loop-i.invariant k (omega arith))
+returns c =
+    let p = has_name c.args.name.now in
+    ap found c.copied.ensures ∙ first_found p c.table.result.now c.table.ensures.len c.table.ensures.places c.find.result
+    (first_from_find _ _ _ (λ b. p (entry_of b) ≡ true) (λ b. p (entry_of b) ≡ false) c.find.ensures.ran
+    (YieldsList-from_slice c.table.result.now cc) (λ x q k. search (rules, tests)) (λ x q k. search (rules, tests)))

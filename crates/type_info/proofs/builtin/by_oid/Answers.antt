@@ -1,75 +1,61 @@
-use Rattle.std.proofs.Common.{◌≡◌, ℕ, ◌+◌, ◌-◌, ◌/◌, ◌<◌, ◌≤◌, [], get_or, Some, None, sym, ap, ◌∙◌, ⊎_elim, arith}
-use Rattle.std.proofs.lemmas.Bool.{cases_lt}
+use Rattle.std.proofs.Common.{◌≡◌, ℕ, ◌<◌, ◌≤◌, List, length, get_or, Some, None, Ok, Err, Equal, Less, Greater, Ordering, Option, Result, Bor, sym, ap, ◌∙◌, ⊎_elim, arith, rules}
+use Rattle.std.proofs.lemmas.Bool.{cases_lt, cases_order}
+use Rattle.std.proofs.lemmas.Cmp.{ranked}
+use Rattle.std.proofs.lemmas.Fn.{always_returns_same}
+use Rattle.std.specs.Fn.{Called, ComputesKey, Mut}
+use Rattle.std.specs.List.Sorted.{IsBinarySearchResult, IsSearchInRange}
+use Rattle.std.specs.Ordering.{nat_cmp, ordering_index}
+use Rattle.std.specs.Cmp.{nat_cmp_is}
+use Rattle.std.specs.Option.{MatchOption}
+use Rattle.std.specs.Result.{result_ok}
+use borrow.Author.Tests.{tests}
 use Rattle.type_info.specs.declared.builtin.BuiltIn.{BuiltIn}
-use Rattle.type_info.specs.declared.builtin.BuiltInKind.TheVariants.{Simple}
+use Rattle.type_info.specs.Meaning.{Lists, entry_of, found}
 use Rattle.type_info.specs.Table.{Entry, at, by_oid}
-use Rattle.type_info.specs.Meaning.{entry_of}
-use Rattle.type_info.proofs.Facts.{not-falling, by_oid-at, by_oid-none}
+use Rattle.type_info.proofs.Facts.{blank, not-falling, by_oid-at, by_oid-none}
 use Rattle.type_info.proofs.builtin.by_oid.Goals as goal
 
--- what stands past the end of the program's table
-abbrev blank : BuiltIn
-blank = (record { 0 = 0 }, record { ref_ptr = (0, 0); now = [] }, Simple)
+rises : (a b o : ℕ) → a ≤ b → ordering_index (nat_cmp a o) ≤ ordering_index (nat_cmp b o)
+rises a b o h =
+    ⊎_elim (λ (e : a ≡ o). rw (sym (nat_cmp_is a o Equal e))
+    (⊎_elim (λ (f : b ≡ o). rw (sym (nat_cmp_is b o Equal f)) (omega arith))
+    (⊎_elim (λ (l : b < o). absurd (omega arith)) (λ (l : o < b). rw (sym (nat_cmp_is b o Greater l)) (omega arith))) (cases_order b o)))
+    (⊎_elim (λ (l : a < o). rw (sym (nat_cmp_is a o Less l)) (omega arith))
+    (λ (l : o < a). rw (sym (nat_cmp_is a o Greater l), sym (nat_cmp_is b o Greater (omega arith))) (omega arith))) (cases_order a o)
 
--- an entry of the program's table, at its place in the list
-module _ (e : BuiltIn) (m : ℕ) (h : m < 92) (is : entry_of e ≡ at m) (o : ℕ) where
-  same-oid : e.0.0 ≡ (at m).oid
-  same-oid = ap (λ (x : Entry). x.oid) is
+module _ (t : List BuiltIn) (n : length t ≡ 92) (s : Lists t) (o : ℕ) where
+  oid-at : (i : ℕ) (d : BuiltIn) → i < 92 → (get_or t i d).0.0 ≡ (at i).oid
+  oid-at i d h = ap (λ (x : Entry). x.oid) (s i d h)
 
-  up_to : e.0.0 ≤ o → (k : ℕ) → k < m + 1 → (at k).oid ≤ o
-  up_to l k kl = let q = same-oid in let r = not-falling k m (omega arith) h in omega arith
+  searched : (r : Result ℕ ℕ) → IsSearchInRange r (length t) → IsBinarySearchResult (λ b. nat_cmp b.0.0 o) t r →
+      MatchOption (result_ok r) (None ≡ by_oid o) (λ i. Some (entry_of (get_or t i blank)) ≡ by_oid o)
+  searched (Ok i) l f =
+      let h : i < 92 = omega (arith, n, l) in
+      ap Some (s i blank h) ∙ sym (by_oid-at i h) ∙ ap by_oid (sym (oid-at i blank h) ∙ ranked _ o Equal (sym (f blank)))
+  searched (Err i) l f =
+      let g = f (λ j k d jk kn. let h : k < 92 = omega (arith, n, kn) in
+      let q = not-falling j k jk h in
+      rises _ _ o (omega (arith, oid-at j d (omega (arith, h)), oid-at k d h, q))) in
+      sym (by_oid-none o (λ k h e. ⊎_elim
+      (λ (u : k < i). let z = ranked _ o Less (sym (g.0 k blank (omega arith) u)) in omega (arith, oid-at k blank h, e, z))
+      (λ (u : i ≤ k). let z = ranked _ o Greater (sym (g.1 k blank u (omega (arith, n, h)))) in omega (arith, oid-at k blank h, e, z))
+      (cases_lt k i)))
 
-  above : o < e.0.0 → (k : ℕ) → m ≤ k → k < 92 → o < (at k).oid
-  above l k kl kh = let q = same-oid in let r = not-falling m k kl kh in omega arith
+  -- the same of the search's answer as an Option, from what the library says of it
+  told :
+      {F : Type 0} {g : Mut F (Bor BuiltIn × Unit {0}) Ordering} {f : F} (r : Result ℕ ℕ) (m : Option ℕ) → m ≡ result_ok r →
+      IsSearchInRange r (length t) → ((by : BuiltIn → Ordering) → ComputesKey g by f → IsBinarySearchResult by t r) →
+      ((a : Bor BuiltIn × Unit {0}) (k : Ordering) (f' : F) → Called g f a k f' → (k ≡ nat_cmp a.0.now.0.0 o) × (f' ≡ f)) →
+      MatchOption m (None ≡ by_oid o) (λ i. Some (entry_of (get_or t i blank)) ≡ by_oid o)
+  told r m e l p k = rw e (searched r l (p (λ b. nat_cmp b.0.0 o) (always_returns_same _ _ _ k)))
 
-  smaller : (e.0.0 ≡ o → ⊥) → (at m).oid ≤ o → (k : ℕ) → k < m + 1 → (at k).oid < o
-  smaller ne l k kl = let q = same-oid in let r = not-falling k m (omega arith) h in omega arith
+pub returns-in_err-place : goal.returns-in_err-place
+returns-in_err-place c =
+    ap found c.from_residual.ensures
+    ∙ told c.table-entries.result.now c.table-entries.ensures.len c.table-entries.ensures.places c.args.oid.0 c.binary_search_by.result None c.in_err-place.ensures.value
+    c.binary_search_by.ensures.bound c.binary_search_by.ensures.position (λ a r q k. search (rules, tests))
 
-  hit : e.0.0 ≡ o → Some (entry_of e) ≡ by_oid o
-  hit eq = ap Some is ∙ sym (by_oid-at m h) ∙ ap by_oid (sym same-oid ∙ eq)
-
--- an OID is missing where every entry before a place has a smaller one and every entry from there on a larger one
-between : (o n : ℕ) → ((k : ℕ) → k < n → (at k).oid < o) → ((k : ℕ) → n ≤ k → k < 92 → o < (at k).oid) → None ≡ by_oid o
-between o n f g =
-    sym (by_oid-none o (λ k h. ⊎_elim
-    (λ (l : k < n). let r = f k l in λ e. omega arith) (λ (l : n ≤ k). let r = g k l h in λ e. omega arith) (cases_lt k n)))
-
-pub loop-low-preserved-then-entries-middle : goal.loop-low-preserved-then-entries-middle
-loop-low-preserved-then-entries-middle c =
-    let m : ℕ = c.loop-low.low + (c.loop-low.high - c.loop-low.low) / 2 in
-    let h : m < 92 = omega arith in (
-      omega arith,
-      omega arith,
-      up_to (get_or c.table-entries.result.now m blank) m h (c.table-entries.ensures.places m blank h) c.args.oid.0 (omega (arith, c.if-entries-middle.true)),
-      c.loop-low.invariant.3,
-    )
-
-pub loop-low-preserved : goal.loop-low-preserved
-loop-low-preserved c =
-    let m : ℕ = c.loop-low.low + (c.loop-low.high - c.loop-low.low) / 2 in
-    let h : m < 92 = omega arith in (
-      omega arith,
-      omega arith,
-      c.loop-low.invariant.2,
-      above (get_or c.table-entries.result.now m blank) m h (c.table-entries.ensures.places m blank h) c.args.oid.0 (omega (arith, c.if-entries-middle.false)),
-    )
-
-pub returns-then-low-eq0 : goal.returns-then-low-eq0
-returns-then-low-eq0 c =
-    between c.args.oid.0 0 (λ k l. absurd (omega arith)) (λ k l h. c.loop-low.invariant.3 k (omega arith) h)
-
-pub returns-then-entry-oid : goal.returns-then-entry-oid
-returns-then-entry-oid c =
-    let m : ℕ = c.loop-low.low - 1 in
-    let h : m < 92 = omega arith in
-    hit (get_or c.table-entries.result.now m blank) m h (c.table-entries.ensures.places m blank h) c.args.oid.0 c.if-entry-oid.true
-
-pub returns-else-entry-oid : goal.returns-else-entry-oid
-returns-else-entry-oid c =
-    let m : ℕ = c.loop-low.low - 1 in
-    let h : m < 92 = omega arith in
-    let o : ℕ = c.args.oid.0 in
-    let last : (at m).oid ≤ o = c.loop-low.invariant.2 m (omega arith) in
-    between o c.loop-low.low
-    (λ k l. smaller (get_or c.table-entries.result.now m blank) m h (c.table-entries.ensures.places m blank h) o c.if-entry-oid.false last k (omega arith))
-    (λ k l. c.loop-low.invariant.3 k (omega arith))
+pub returns : goal.returns
+returns c =
+    told c.table-entries.result.now c.table-entries.ensures.len c.table-entries.ensures.places c.args.oid.0 c.binary_search_by.result (Some c.in_ok-place.place) c.in_ok-place.ensures.value
+    c.binary_search_by.ensures.bound c.binary_search_by.ensures.position (λ a r q k. search (rules, tests))
