@@ -1,31 +1,25 @@
 -- The laws of the three kinds of key: a test on what they stand for decides whether two are the same, and a text that
 -- grows at its end leaves what its stored names stand for.
 -- Assumes nothing.
-use Rattle.std.specs.Prelude.{◌≡◌, ℕ, ◌≤◌, List, ◌++◌, length, take, drop, ℤ, pos, negsuc, Decides, ◌==◌, nat_eq, refl}
-use Rattle.std.proofs.Common.{sym, ap, ◌∙◌, arith, length-drop}
+use Rattle.std.specs.Prelude.{◌≡◌, ℕ, ◌≤◌, List, ◌++◌, length, take, drop, Decides, ◌==◌, nat_eq, refl}
+use Rattle.std.proofs.Common.{ap, ◌∙◌, arith, length-drop}
+use Rattle.std.specs.Ordering.{int_eq}
 use Rattle.std.specs.Str.{bytes_eq}
 use Rattle.std.proofs.lemmas.Slice.Eq.{bytes_eq-Decides}
 use Rattle.std.proofs.lemmas.List.{drop-append-le, take-append-le}
-use Rattle.std.proofs.lemmas.Bool.{true≢false}
-use Rattle.std.proofs.lemmas.Bool.Decides.{Decides-eqb, Decides-and, Decides-like}
+use Rattle.std.proofs.lemmas.Bool.Decides.{Decides-eqb, Decides-int_eq, Decides-and, Decides-like}
 use Rattle.keys.specs.declared.span.Span.{Span}
 use Rattle.keys.specs.Laws.{Laws}
 use Rattle.keys.specs.Spans.{span_bytes, span_end}
-use Rattle.keys.specs.Senses.{oid_of, Pair, pair_of, same_z, same_pair}
+use Rattle.keys.specs.Senses.{oid_of, Pair, pair_of, same_pair}
 
 pub oid-laws : Laws (λ _. oid_of) nat_eq (λ _. 0)
 oid-laws = record { tells = Decides-eqb; grows = λ text more s l. refl }
 
-same_number : (a b : ℤ) → Decides (same_z a b) (a ≡ b)
-same_number (pos a) (pos b) = Decides-like (a == b) (ap pos) (λ e. cc) (Decides-eqb a b)
-same_number (pos a) (negsuc b) = (λ e. absurd (true≢false (sym e)), λ e. cc)
-same_number (negsuc a) (pos b) = (λ e. absurd (true≢false (sym e)), λ e. cc)
-same_number (negsuc a) (negsuc b) = Decides-like (a == b) (ap negsuc) (λ e. cc) (Decides-eqb a b)
-
 same-pair : (p q : Pair) → Decides (same_pair p q) (p ≡ q)
 same-pair p q =
     Decides-like (same_pair p q) (λ e. λ i. (e.0 i, e.1 i)) (λ e. (ap (λ (x : Pair). x.0) e, ap (λ (x : Pair). x.1) e))
-    (Decides-and (p.0 == q.0) (same_z p.1 q.1) (Decides-eqb p.0 q.0) (same_number p.1 q.1))
+    (Decides-and (p.0 == q.0) (int_eq p.1 q.1) (Decides-eqb p.0 q.0) (Decides-int_eq p.1 q.1))
 
 pub pair-laws : Laws (λ _. pair_of) same_pair (λ _. 0)
 pair-laws = record { tells = same-pair; grows = λ text more s l. refl }

@@ -1,6 +1,7 @@
 -- What the three kinds of key stand for, when two are the same, and their hashes.
 -- Assumes nothing.
-use Rattle.std.specs.Prelude.{ℕ, ◌+◌, ◌*◌, ◌/◌, ◌%◌, ◌^◌, Bool, false, ◌&&◌, List, ℤ, pos, negsuc, fold, ◌==◌, bit_xor}
+use Rattle.std.specs.Prelude.{ℕ, ◌+◌, ◌*◌, ◌/◌, ◌%◌, ◌^◌, Bool, ◌&&◌, List, ℤ, pos, negsuc, fold, ◌==◌, bit_xor}
+use Rattle.std.specs.Ordering.{int_eq}
 use Rattle.type_info.specs.declared.oid.Oid.{Oid}
 use Rattle.keys.specs.declared.kinds.Attribute.{Attribute}
 use Rattle.keys.specs.declared.kinds.Name.{Name}
@@ -9,14 +10,8 @@ use Rattle.keys.specs.declared.kinds.Name.{Name}
 abbrev pub Pair : Type 0
 Pair = ℕ × ℤ
 
-abbrev pub same_z : ℤ → ℤ → Bool
-same_z (pos a) (pos b) = a == b
-same_z (pos a) (negsuc b) = false
-same_z (negsuc a) (pos b) = false
-same_z (negsuc a) (negsuc b) = a == b
-
 abbrev pub same_pair : Pair → Pair → Bool
-same_pair p q = p.0 == q.0 && same_z p.1 q.1
+same_pair p q = p.0 == q.0 && int_eq p.1 q.1
 
 abbrev pub oid_of : Oid → ℕ
 oid_of o = o.0

@@ -18,8 +18,8 @@ pub trait Key {
     // Whether two keys stand for the same.
     ghost alike: { Sense → Sense → Bool };
 
-    // How far into the text a stored key reaches.
-    ghost extent: { Self.Stored → ℕ };
+    // How far into the text a stored key reaches: where its kind says nothing, not at all.
+    ghost extent: { Self.Stored → ℕ } = { λ _. 0 };
 
     // The hash of what a key stands for: equal keys share it, and so share their home slot.
     ghost digest: { Sense → ℕ };

@@ -37,14 +37,12 @@ impl Key for Oid {
 
     ghost alike = { nat_eq };
 
-    ghost extent = { λ _. 0 };
-
     ghost digest = { oid_digest };
 
     ghost laws = { oid-laws };
 
     fn matches(&self, stored: Oid, _text: &[u8]) -> bool {
-        self.0 == stored.0
+        *self == stored
     }
 
     fn hash(&self) -> u32 {
@@ -53,7 +51,7 @@ impl Key for Oid {
 }
 
 // An attribute of a relation. Attribute numbers below 0 are the system's.
-#[derive(Clone, Copy)]
+#[derive(Clone, Copy, PartialEq, Eq, Debug)]
 pub struct Attribute {
     pub relation: Oid,
     pub number: AttributeNumber,
@@ -63,11 +61,8 @@ pub struct Attribute {
 fn fold_sign(number: i16) -> u32
     ensures { result ≡ folded_sign number }
 {
-    if number >= 0 {
-        number as u32 * 2
-    } else {
-        (-1 - number as i32) as u32 * 2 + 1
-    }
+    let twice = u32::from(number.unsigned_abs()) * 2;
+    if number < 0 { twice - 1 } else { twice }
 }
 
 impl Key for Attribute {
@@ -81,14 +76,12 @@ impl Key for Attribute {
 
     ghost alike = { same_pair };
 
-    ghost extent = { λ _. 0 };
-
     ghost digest = { pair_digest };
 
     ghost laws = { pair-laws };
 
     fn matches(&self, stored: Attribute, _text: &[u8]) -> bool {
-        self.relation.0 == stored.relation.0 && self.number.0 == stored.number.0
+        *self == stored
     }
 
     fn hash(&self) -> u32 {
@@ -97,23 +90,8 @@ impl Key for Attribute {
 }
 
 // A name to look up; stored it is a span of the text.
-#[derive(Clone, Copy)]
+#[derive(Clone, Copy, PartialEq, Eq, Debug)]
 pub struct Name<'a>(pub &'a [u8]);
-
-// Whether the bytes are the same, one by one.
-pub fn same_bytes(a: &[u8], b: &[u8]) -> bool
-    ensures { Decides result (a.now ≡ b.now) }
-{
-    if a.len() != b.len() {
-        return false;
-    }
-    for i in 0..a.len() {
-        if a[i] != b[i] {
-            return false;
-        }
-    }
-    true
-}
 
 impl<'a> Key for Name<'a> {
     type Stored = Span;
@@ -135,14 +113,11 @@ impl<'a> Key for Name<'a> {
     fn matches(&self, stored: Span, text: &[u8]) -> bool {
         let start = stored.start as usize;
         let end = start + stored.length as usize;
-        same_bytes(&text[start..end], self.0)
+        &text[start..end] == self.0
     }
 
     fn hash(&self) -> u32 {
-        let mut hash = SEED;
-        for b in self.0 {
-            hash = mix(hash, *b as u32);
-        }
-        finish(hash)
+        let mixed = self.0.iter().fold(SEED, |hash, b| mix(hash, u32::from(*b)));
+        finish(mixed)
     }
 }
