@@ -1,23 +1,22 @@
 -- What a search tells where it stops, and what a write there keeps. Assumes nothing.
-use Rattle.std.proofs.Common.{◌≡◌, ℕ, ◌+◌, ◌-◌, ◌<◌, ◌≤◌, Bool, true, cond, ◌⊎◌, List, ◌++◌, length, set, Some, Decides, sym, refl, ap, ◌∙◌, subst, inl, inr, ⊎_elim, mod-lt, arith, length-append, length-set, get_or-set_other, get_or-set_same}
+use Rattle.std.proofs.Common.{◌≡◌, ℕ, ◌+◌, ◌-◌, ◌<◌, ◌≤◌, Bool, true, cond, ◌⊎◌, List, ◌++◌, length, set, Some, Decides, sym, refl, ap, ◌∙◌, subst, inl, inr, ⊎_elim, mod-lt, arith, length-append, length-set, get_or-set_other, get_or-set_same, None, is_some}
 use mathlib.Core.Logic.{∥∥₁_elim}
 use mathlib.Core.Bool.{Bool-set}
 use native.Mathlib.Nat.{ℕ_set}
+use Rattle.std.proofs.lemmas.Option.{some_pair_parts}
 use Rattle.std.proofs.lemmas.Bool.{cases_order, cases_eq, true≢false}
-use Rattle.slots.specs.declared.map.Entry.{Entry}
-use Rattle.slots.specs.declared.map.Entry.TheVariants.{Empty, Full}
 use Rattle.slots.specs.declared.map.Stop.TheVariants.{Hit, Gap, Crowded}
-use Rattle.slots.specs.Slots.{held, home, way, distance, is_full, at, Other, Ordered, Sound, Within, Passed, Ends, Told, Free, Added, Steady}
+use Rattle.slots.specs.Slots.{Entry, held, home, way, distance, at, Other, Ordered, Sound, Within, Kept, Passed, Ends, Told, Free, Added, Steady}
 use Rattle.slots.proofs.Around.{around-below, distance-below, around-distance, distance-around}
 use Rattle.slots.proofs.Held.{Absent, Blank, full-not-empty, full-inside, filled-all, filled-gap, filled-set, held_none, held-some, held-set, held-like, alike_flipped}
 
 module _ {S V : Type 0} where
   -- a write of a full slot leaves the full ones full
-  full-set : (es : List (Entry S V)) (i j : ℕ) (s : S) (v : V) → i < length es → is_full (at es j) ≡ true → is_full (at (set es i (Full s v)) j) ≡ true
+  full-set : (es : List (Entry S V)) (i j : ℕ) (s : S) (v : V) → i < length es → is_some (at es j) ≡ true → is_some (at (set es i (Some (s, v))) j) ≡ true
   full-set es i j s v l f =
       ⊎_elim
-      (λ e. ap is_full (ap (at (set es i (Full s v))) e ∙ get_or-set_same es i (Full s v) Empty l))
-      (λ ne. ap is_full (get_or-set_other es i j (Full s v) Empty ne) ∙ f)
+      (λ e. ap is_some (ap (at (set es i (Some (s, v)))) e ∙ get_or-set_same es i (Some (s, v)) None l))
+      (λ ne. ap is_some (get_or-set_other es i j (Some (s, v)) None ne) ∙ f)
       (cases_eq j i)
 
 module _ {S V Q : Type 0} where
@@ -31,21 +30,21 @@ module _ {S V Q : Type 0} where
     opened : Sound sense digest es → Ordered sense digest es
     opened h = ∥∥₁_elim h only_one (λ o. o)
 
-  other-full : (sense : S → Q) (q : Q) (e : Entry S V) → Other sense q e → is_full e ≡ true
-  other-full sense q Empty h = absurd h
-  other-full sense q (Full s v) h = refl
+  other-full : (sense : S → Q) (q : Q) (e : Entry S V) → Other sense q e → is_some e ≡ true
+  other-full sense q None h = absurd h
+  other-full sense q (Some (s, v)) h = refl
 
-  other-not : (sense : S → Q) (q : Q) (e : Entry S V) (s : S) (v : V) → e ≡ Full s v → Other sense q e → sense s ≡ q → ⊥
+  other-not : (sense : S → Q) (q : Q) (e : Entry S V) (s : S) (v : V) → e ≡ Some (s, v) → Other sense q e → sense s ≡ q → ⊥
   other-not sense q e s v is h = subst (Other sense q) is h
 
   module _ (sense : S → Q) (digest : Q → ℕ) (es : List (Entry S V)) (q : Q) where
     -- a key that means q is met at its distance from the home
-    met : (i : ℕ) (s : S) (v : V) → at es i ≡ Full s v → sense s ≡ q → way digest (length es) q (distance (length es) (home digest (length es) q) i) ≡ i
+    met : (i : ℕ) (s : S) (v : V) → at es i ≡ Some (s, v) → sense s ≡ q → way digest (length es) q (distance (length es) (home digest (length es) q) i) ≡ i
     met i s v e m =
         let inside = full-inside es i s v e in
         around-distance (length es) _ i (mod-lt (digest q) (omega arith)) inside
 
-    passed-not : (k i : ℕ) (s : S) (v : V) → Passed sense digest es q k → at es i ≡ Full s v → sense s ≡ q → distance (length es) (home digest (length es) q) i < k → ⊥
+    passed-not : (k i : ℕ) (s : S) (v : V) → Passed sense digest es q k → at es i ≡ Some (s, v) → sense s ≡ q → distance (length es) (home digest (length es) q) i < k → ⊥
     passed-not k i s v p e m l = other-not sense q _ s v (ap (at es) (met i s v e m) ∙ e) (p _ l) m
 
     pub absent-all : Passed sense digest es q (length es) → Absent sense es q
@@ -53,16 +52,16 @@ module _ {S V Q : Type 0} where
         let inside = full-inside es i s v e in
         passed-not (length es) i s v p e m (distance-below (length es) _ i (mod-lt (digest q) (omega arith)) inside)
 
-    pub absent-gap : (k : ℕ) → Ordered sense digest es → Passed sense digest es q k → at es (way digest (length es) q k) ≡ Empty → Absent sense es q
+    pub absent-gap : (k : ℕ) → Ordered sense digest es → Passed sense digest es q k → at es (way digest (length es) q k) ≡ None → Absent sense es q
     absent-gap k ordered p gap i s v e m =
         ⊎_elim
         (λ same. full-not-empty (at es i) s v e (ap (at es) (sym (met i s v e m) ∙ ap (way digest (length es) q) same) ∙ gap))
         (⊎_elim
         (λ less. passed-not k i s v p e m less)
         (λ more.
-        let full : is_full (at es (way digest (length es) q k)) ≡ true =
-        subst (λ (l : Q). k < distance (length es) (home digest (length es) l) i → is_full (at es (way digest (length es) l k)) ≡ true) m (ordered.reached i s v e k) more in
-        true≢false (sym full ∙ ap is_full gap)))
+        let full : is_some (at es (way digest (length es) q k)) ≡ true =
+        subst (λ (l : Q). k < distance (length es) (home digest (length es) l) i → is_some (at es (way digest (length es) l k)) ≡ true) m (ordered.reached i s v e k) more in
+        true≢false (sym full ∙ ap is_some gap)))
         (cases_order (distance (length es) (home digest (length es) q) i) k)
 
     ends : (k i : ℕ) → k < length es → i ≡ way digest (length es) q k → Passed sense digest es q k → Ends sense digest es q (k + 1) i
@@ -76,11 +75,11 @@ module _ {S V Q : Type 0} where
           passed = subst (Passed sense digest es q) back p;
         }
 
-    pub told-hit : (alike : Q → Q → Bool) (tells : (a b : Q) → Decides (alike a b) (a ≡ b)) → (k i : ℕ) (s : S) (v : V) → Sound sense digest es → k < length es → i ≡ way digest (length es) q k → Passed sense digest es q k → at es i ≡ Full s v → sense s ≡ q → Told alike sense digest es q (k + 1) (Hit i v)
+    pub told-hit : (alike : Q → Q → Bool) (tells : (a b : Q) → Decides (alike a b) (a ≡ b)) → (k i : ℕ) (s : S) (v : V) → Sound sense digest es → k < length es → i ≡ way digest (length es) q k → Passed sense digest es q k → at es i ≡ Some (s, v) → sense s ≡ q → Told alike sense digest es q (k + 1) (Hit i v)
     told-hit alike tells k i s v sound l e p is m =
         (ends k i l e p, (s, is, m), held-some alike tells sense es i s v q is m (λ j t w f n. (opened sense digest es sound).apart j i t s w v f is (n ∙ sym m)))
 
-    pub told-gap : (alike : Q → Q → Bool) (tells : (a b : Q) → Decides (alike a b) (a ≡ b)) → (k i : ℕ) → Sound sense digest es → k < length es → i ≡ way digest (length es) q k → Passed sense digest es q k → at es i ≡ Empty → Told alike sense digest es q (k + 1) (Gap i)
+    pub told-gap : (alike : Q → Q → Bool) (tells : (a b : Q) → Decides (alike a b) (a ≡ b)) → (k i : ℕ) → Sound sense digest es → k < length es → i ≡ way digest (length es) q k → Passed sense digest es q k → at es i ≡ None → Told alike sense digest es q (k + 1) (Gap i)
     told-gap alike tells k i sound l e p is =
         let last = ends k i l e p in
         (last, is, filled-gap es i last.inside is, held_none alike tells sense es q (absent-gap k (opened sense digest es sound) p (ap (at es) (sym e) ∙ is)))
@@ -90,22 +89,21 @@ module _ {S V Q : Type 0} where
       refl,
       filled-all es (λ i l.
           let h = mod-lt (digest q) (omega (arith, l)) in
-          subst (λ (j : ℕ). is_full (at es j) ≡ true) (around-distance (length es) _ i h l) (other-full sense q _ (p _ (distance-below (length es) _ i h l)))),
+          subst (λ (j : ℕ). is_some (at es j) ≡ true) (around-distance (length es) _ i h l) (other-full sense q _ (p _ (distance-below (length es) _ i h l)))),
       held_none alike tells sense es q (absent-all p),
     )
 
   module _ (sense : S → Q) (digest : Q → ℕ) (es : List (Entry S V)) (i : ℕ) (s : S) (v : V) where
     abbrev after : List (Entry S V)
-    after = set es i (Full s v)
+    after = set es i (Some (s, v))
 
     -- what a slot has after the write: the new key at i, or what it had
-    was : i < length es → (j : ℕ) (t : S) (w : V) → at after j ≡ Full t w → ((j ≡ i) × (t ≡ s)) ⊎ ((j ≡ i → ⊥) × (at es j ≡ Full t w))
+    was : i < length es → (j : ℕ) (t : S) (w : V) → at after j ≡ Some (t, w) → ((j ≡ i) × (t ≡ s)) ⊎ ((j ≡ i → ⊥) × (at es j ≡ Some (t, w)))
     was l j t w e =
         ⊎_elim
         (λ same.
-        let here = sym (get_or-set_same es i (Full s v) Empty l) ∙ ap (at after) (sym same) ∙ e in
-        inl (same, cc))
-        (λ ne. inr (ne, sym (get_or-set_other es i j (Full s v) Empty ne) ∙ e))
+        inl (same, sym (some_pair_parts s t v w (sym (get_or-set_same es i (Some (s, v)) None l) ∙ ap (at after) (sym same) ∙ e)).0))
+        (λ ne. inr (ne, sym (get_or-set_other es i j (Some (s, v)) None ne) ∙ e))
         (cases_eq j i)
 
     free-absent : Ordered sense digest es → Free sense digest es (sense s) i → Absent sense es (sense s)
@@ -120,14 +118,14 @@ module _ {S V Q : Type 0} where
         let n = length es in
         let q = sense s in
         let none = free-absent ordered free in
-        let long : length es ≡ length after = sym (length-set es i (Full s v)) in
-        let reached : (j : ℕ) (t : S) (w : V) → at after j ≡ Full t w → (k : ℕ) → k < distance n (home digest n (sense t)) j → is_full (at after (way digest n (sense t) k)) ≡ true =
+        let long : length es ≡ length after = sym (length-set es i (Some (s, v))) in
+        let reached : (j : ℕ) (t : S) (w : V) → at after j ≡ Some (t, w) → (k : ℕ) → k < distance n (home digest n (sense t)) j → is_some (at after (way digest n (sense t) k)) ≡ true =
         λ j t w f k less. full-set es i (way digest n (sense t) k) s v e.inside (⊎_elim
         (λ (p : (j ≡ i) × (t ≡ s)).
         let far : distance n (home digest n q) i ≡ looked - 1 =
         ap (distance n (home digest n q)) e.last ∙ distance-around n (home digest n q) (looked - 1) (mod-lt (digest q) (omega (arith, e.inside))) (omega (arith, e.some, e.most)) in
         let step : k < distance n (home digest n q) i = subst (λ (m : ℕ). k < distance n (home digest n q) m) p.0 (subst (λ (u : S). k < distance n (home digest n (sense u)) j) p.1 less) in
-        subst (λ (u : S). is_full (at es (way digest n (sense u) k)) ≡ true) (sym p.1) (other-full sense q _ (e.passed k (omega (arith, far, step)))))
+        subst (λ (u : S). is_some (at es (way digest n (sense u) k)) ≡ true) (sym p.1) (other-full sense q _ (e.passed k (omega (arith, far, step)))))
         (λ p. ordered.reached j t w p.1 k less)
         (was e.inside j t w f)) in
         record {
@@ -142,7 +140,7 @@ module _ {S V Q : Type 0} where
               (λ r. ordered.apart a b t u x y p.1 r.1 m)
               (was e.inside b u y g))
               (was e.inside a t x f);
-          reached = subst (λ (m : ℕ). (j : ℕ) (t : S) (w : V) → at after j ≡ Full t w → (k : ℕ) → k < distance m (home digest m (sense t)) j → is_full (at after (way digest m (sense t) k)) ≡ true) long reached;
+          reached = subst (λ (m : ℕ). (j : ℕ) (t : S) (w : V) → at after j ≡ Some (t, w) → (k : ℕ) → k < distance m (home digest m (sense t)) j → is_some (at after (way digest m (sense t) k)) ≡ true) long reached;
         }
 
     pub added : (alike : Q → Q → Bool) (tells : (a b : Q) → Decides (alike a b) (a ≡ b)) → (q : Q) → sense s ≡ q → Sound sense digest es → Free sense digest es q i → Added alike sense digest es q v after
@@ -159,20 +157,20 @@ module _ {S V Q : Type 0} where
     within-set extent n l fits h j t w f = ⊎_elim (λ p. subst (λ (u : S). extent u ≤ n) (sym p.1) fits) (λ p. h j t w p.1) (was l j t w f)
 
   -- where two readings of the stored keys agree on those that are there
-  module _ (sense sense' : S → Q) (digest : Q → ℕ) (es : List (Entry S V)) (like : (i : ℕ) (s : S) (v : V) → at es i ≡ Full s v → sense' s ≡ sense s) where
+  module _ (sense sense' : S → Q) (digest : Q → ℕ) (es : List (Entry S V)) (like : (i : ℕ) (s : S) (v : V) → at es i ≡ Some (s, v) → sense' s ≡ sense s) where
     ordered-like : Ordered sense digest es → Ordered sense' digest es
     ordered-like ordered =
         record {
           apart = λ i j s t v w e f m. ordered.apart i j s t v w e f (sym (like i s v e) ∙ m ∙ like j t w f);
-          reached = λ i s v e. subst (λ (l : Q). (k : ℕ) → k < distance (length es) (home digest (length es) l) i → is_full (at es (way digest (length es) l k)) ≡ true) (sym (like i s v e)) (ordered.reached i s v e);
+          reached = λ i s v e. subst (λ (l : Q). (k : ℕ) → k < distance (length es) (home digest (length es) l) i → is_some (at es (way digest (length es) l k)) ≡ true) (sym (like i s v e)) (ordered.reached i s v e);
         }
 
     other-like : (q : Q) (i : ℕ) → Other sense q (at es i) → Other sense' q (at es i)
     other-like q i = go (at es i) refl
       where
         go : (e : Entry S V) → at es i ≡ e → Other sense q e → Other sense' q e
-        go Empty is h = h
-        go (Full s v) is h = λ m. h (sym (like i s v is) ∙ m)
+        go None is h = h
+        go (Some (s, v)) is h = λ m. h (sym (like i s v is) ∙ m)
 
     free-like : (q : Q) (i : ℕ) → Free sense digest es q i → Free sense' digest es q i
     free-like q i free =
@@ -181,7 +179,7 @@ module _ {S V Q : Type 0} where
 
   pub steady : (alike : Q → Q → Bool) (tells : (a b : Q) → Decides (alike a b) (a ≡ b)) → (stands : List ℕ → S → Q) (digest : Q → ℕ) (extent : S → ℕ) (text more : List ℕ) (es : List (Entry S V)) → ((s : S) → extent s ≤ length text → stands (text ++ more) s ≡ stands text s) → Within extent (length text) es → Steady alike stands digest extent text more es
   steady alike tells stands digest extent text more es grows within =
-      let like : (i : ℕ) (s : S) (v : V) → at es i ≡ Full s v → stands (text ++ more) s ≡ stands text s = λ i s v e. grows s (within i s v e) in
+      let like : (i : ℕ) (s : S) (v : V) → at es i ≡ Some (s, v) → stands (text ++ more) s ≡ stands text s = λ i s v e. grows s (within i s v e) in
       record {
         sound = λ h. ∣ ordered-like (stands text) (stands (text ++ more)) digest es like (opened (stands text) digest es h) ∣₁;
         within = λ i s v e. omega (arith, length-append text more, within i s v e);
@@ -189,9 +187,12 @@ module _ {S V Q : Type 0} where
         free = free-like (stands text) (stands (text ++ more)) digest es like;
       }
 
-  pub blank-sound : (sense : S → Q) (digest : Q → ℕ) (es : List (Entry S V)) → Blank es → Sound sense digest es
-  blank-sound sense digest es h =
-      ∣ record {
-        apart = λ i j s t v w e f m. absurd (full-not-empty (at es i) s v e (h i));
-        reached = λ i s v e k l. absurd (full-not-empty (at es i) s v e (h i));
-      } ∣₁
+  pub blank-kept : (stands : List ℕ → S → Q) (digest : Q → ℕ) (extent : S → ℕ) (text : List ℕ) (es : List (Entry S V)) → Blank es → Kept stands digest extent text es
+  blank-kept stands digest extent text es h =
+      record {
+        sound = ∣ record {
+          apart = λ i j s t v w e f m. absurd (full-not-empty (at es i) s v e (h i));
+          reached = λ i s v e k l. absurd (full-not-empty (at es i) s v e (h i));
+        } ∣₁;
+        within = λ i s v e. absurd (full-not-empty (at es i) s v e (h i));
+      }

@@ -1,9 +1,7 @@
 -- How many slots a search looks at. Assumes nothing.
-use Rattle.std.proofs.Common.{◌≡◌, ℕ, zero, suc, ◌+◌, ◌-◌, ◌<◌, Bool, true, false, List, length, Decides, sym, ap, ◌∙◌, subst, add-zero, zero-add, arith}
+use Rattle.std.proofs.Common.{◌≡◌, ℕ, zero, suc, ◌+◌, ◌-◌, ◌<◌, Bool, true, false, List, length, Decides, sym, ap, ◌∙◌, subst, add-zero, zero-add, arith, Some, None}
 use Rattle.std.proofs.lemmas.Bool.{cond-true, cond-false}
-use Rattle.slots.specs.declared.map.Entry.{Entry}
-use Rattle.slots.specs.declared.map.Entry.TheVariants.{Empty, Full}
-use Rattle.slots.specs.Slots.{at, way, stops_at, looks_from, looks, Other, Passed}
+use Rattle.slots.specs.Slots.{Entry, at, way, stops_at, looks_from, looks, Other, Passed}
 use Rattle.slots.proofs.Held.{not_alike}
 
 module _ {S V Q : Type 0} (alike : Q → Q → Bool) (tells : (a b : Q) → Decides (alike a b) (a ≡ b)) (sense : S → Q) (digest : Q → ℕ) (es : List (Entry S V)) (q : Q) where
@@ -11,8 +9,8 @@ module _ {S V Q : Type 0} (alike : Q → Q → Bool) (tells : (a b : Q) → Deci
   slot k = at es (way digest (length es) q k)
 
   goes_on : (e : Entry S V) → Other sense q e → stops_at alike sense q e ≡ false
-  goes_on Empty h = absurd h
-  goes_on (Full s v) h = not_alike alike tells q (sense s) (λ e. h (sym e))
+  goes_on None h = absurd h
+  goes_on (Some (s, v)) h = not_alike alike tells q (sense s) (λ e. h (sym e))
 
   abbrev from : ℕ → ℕ → ℕ
   from = looks_from alike sense digest es q

@@ -1,11 +1,13 @@
 -- What the slots hold, and what keeps each key findable. Assumes nothing.
 -- S is the type of stored keys, V that of values, and Q that of what keys stand for.
-use Rattle.std.specs.Prelude.{◌≡◌, ℕ, zero, suc, ◌+◌, ◌-◌, ◌%◌, ◌<◌, ◌≤◌, Bool, true, false, cond, List, [], ◌∷◌, ◌++◌, length, Some, None, Option, nat_le, nat_lt, slice_index_or}
+use Rattle.std.specs.Prelude.{◌≡◌, ℕ, zero, suc, ◌+◌, ◌-◌, ◌%◌, ◌<◌, ◌≤◌, Bool, true, cond, List, [], ◌∷◌, ◌++◌, length, Some, None, Option, is_some, count_by, nat_le, nat_lt, slice_index_or}
 use Rattle.std.specs.Map.{update}
-use Rattle.slots.specs.declared.map.Entry.{Entry}
-use Rattle.slots.specs.declared.map.Entry.TheVariants.{Empty, Full}
 use Rattle.slots.specs.declared.map.Stop.{Stop}
 use Rattle.slots.specs.declared.map.Stop.TheVariants.{Hit, Gap, Crowded}
+
+-- a slot: a stored key with its value, or nothing
+abbrev pub Entry : Type 0 → Type 0 → Type 0
+Entry S V = Option (S × V)
 
 -- a place below 2 * n, around the end of n slots
 abbrev pub around : ℕ → ℕ → ℕ
@@ -18,21 +20,15 @@ distance n h i = cond (nat_le h i) (i - h) (n + i - h)
 module _ {S V : Type 0} where
   -- how many slots are full
   abbrev pub filled : List (Entry S V) → ℕ
-  filled [] = 0
-  filled (Empty ∷ es) = filled es
-  filled (Full s v ∷ es) = suc (filled es)
-
-  abbrev pub is_full : Entry S V → Bool
-  is_full Empty = false
-  is_full (Full s v) = true
+  filled es = count_by is_some es
 
   -- the slot at i
   abbrev pub at : List (Entry S V) → ℕ → Entry S V
-  at es i = slice_index_or es i Empty
+  at es i = slice_index_or es i None
 
   -- each stored key lies within the first n bytes of the text
   abbrev pub Within : (S → ℕ) → ℕ → List (Entry S V) → Type 0
-  Within extent n es = (i : ℕ) (s : S) (v : V) → at es i ≡ Full s v → extent s ≤ n
+  Within extent n es = (i : ℕ) (s : S) (v : V) → at es i ≡ Some (s, v) → extent s ≤ n
 
 module _ {Q : Type 0} where
   -- the home, among n slots, of a key that stands for q
@@ -43,17 +39,23 @@ module _ {Q : Type 0} where
   abbrev pub way : (Q → ℕ) → ℕ → Q → ℕ → ℕ
   way digest n q k = around n (home digest n q + k)
 
+module _ {S Q : Type 0} where
+  -- s lies within the text and stands for q over it
+  pub record StoredAs (stands : List ℕ → S → Q) (extent : S → ℕ) (text : List ℕ) (q : Q) (s : S) : Type 0 where
+    pub within : extent s ≤ length text
+    pub stands_for : stands text s ≡ q
+
 module _ {S V Q : Type 0} where
   -- the map that the slots stand for: sense says what a stored key stands for, and alike whether two are the same
   abbrev pub held : (Q → Q → Bool) → (S → Q) → List (Entry S V) → Q → Option V
   held alike sense [] q = None
-  held alike sense (Empty ∷ es) q = held alike sense es q
-  held alike sense (Full s v ∷ es) q = cond (alike q (sense s)) (Some v) (held alike sense es q)
+  held alike sense (None ∷ es) q = held alike sense es q
+  held alike sense (Some (s, v) ∷ es) q = cond (alike q (sense s)) (Some v) (held alike sense es q)
 
   -- a search for q stops at an empty slot and at the key's own
   abbrev pub stops_at : (Q → Q → Bool) → (S → Q) → Q → Entry S V → Bool
-  stops_at alike sense q Empty = true
-  stops_at alike sense q (Full s v) = alike q (sense s)
+  stops_at alike sense q None = true
+  stops_at alike sense q (Some (s, v)) = alike q (sense s)
 
   -- how many slots a search for q looks at: from its home to where it stops, both counted, and all where it never stops
   abbrev pub looks_from : (Q → Q → Bool) → (S → Q) → (Q → ℕ) → List (Entry S V) → Q → ℕ → ℕ → ℕ
@@ -66,17 +68,22 @@ module _ {S V Q : Type 0} where
 
   -- the slot is full, with another key than q
   abbrev pub Other : (S → Q) → Q → Entry S V → Type 0
-  Other sense q Empty = ⊥
-  Other sense q (Full s v) = sense s ≡ q → ⊥
+  Other sense q None = ⊥
+  Other sense q (Some (s, v)) = sense s ≡ q → ⊥
 
   -- no two slots have keys that stand for the same, and no slot is empty on the way from a key's home to its slot
   pub record Ordered (sense : S → Q) (digest : Q → ℕ) (es : List (Entry S V)) : Type 0 where
-    pub apart : (i j : ℕ) (s t : S) (v w : V) → at es i ≡ Full s v → at es j ≡ Full t w → sense s ≡ sense t → i ≡ j
-    pub reached : (i : ℕ) (s : S) (v : V) → at es i ≡ Full s v → (k : ℕ) → k < distance (length es) (home digest (length es) (sense s)) i → is_full (at es (way digest (length es) (sense s) k)) ≡ true
+    pub apart : (i j : ℕ) (s t : S) (v w : V) → at es i ≡ Some (s, v) → at es j ≡ Some (t, w) → sense s ≡ sense t → i ≡ j
+    pub reached : (i : ℕ) (s : S) (v : V) → at es i ≡ Some (s, v) → (k : ℕ) → k < distance (length es) (home digest (length es) (sense s)) i → is_some (at es (way digest (length es) (sense s) k)) ≡ true
 
   -- the same, as a ghost field can state it
   abbrev pub Sound : (S → Q) → (Q → ℕ) → List (Entry S V) → Type 0
   Sound sense digest es = ∥ Ordered sense digest es ∥₁
+
+  -- the slots as a map over the text leaves them: each key can be found, and lies within the text
+  pub record Kept (stands : List ℕ → S → Q) (digest : Q → ℕ) (extent : S → ℕ) (text : List ℕ) (es : List (Entry S V)) : Type 0 where
+    pub sound : Sound (stands text) digest es
+    pub within : Within extent (length text) es
 
   -- the first k slots on the way from q's home hold other keys
   abbrev pub Passed : (S → Q) → (Q → ℕ) → List (Entry S V) → Q → ℕ → Type 0
@@ -92,13 +99,13 @@ module _ {S V Q : Type 0} where
 
   -- what a search for q tells: the slots that it looked at, and where it stopped
   abbrev pub Told : (Q → Q → Bool) → (S → Q) → (Q → ℕ) → List (Entry S V) → Q → ℕ → Stop V → Type 0
-  Told alike sense digest es q looked (Hit i v) = Ends sense digest es q looked i × ((s : S) × (at es i ≡ Full s v) × (sense s ≡ q)) × (held alike sense es q ≡ Some v)
-  Told alike sense digest es q looked (Gap i) = Ends sense digest es q looked i × (at es i ≡ Empty) × (filled es < length es) × (held alike sense es q ≡ None)
+  Told alike sense digest es q looked (Hit i v) = Ends sense digest es q looked i × ((s : S) × (at es i ≡ Some (s, v)) × (sense s ≡ q)) × (held alike sense es q ≡ Some v)
+  Told alike sense digest es q looked (Gap i) = Ends sense digest es q looked i × (at es i ≡ None) × (filled es < length es) × (held alike sense es q ≡ None)
   Told alike sense digest es q looked Crowded = (looked ≡ length es) × (filled es ≡ length es) × (held alike sense es q ≡ None)
 
   -- the slot i is empty, and a search for q stops there
   abbrev pub Free : (S → Q) → (Q → ℕ) → List (Entry S V) → Q → ℕ → Type 0
-  Free sense digest es q i = ((looked : ℕ) × Ends sense digest es q looked i) × (at es i ≡ Empty)
+  Free sense digest es q i = ((looked : ℕ) × Ends sense digest es q looked i) × (at es i ≡ None)
 
   -- after es, the slots fs hold v under q too, and nothing else has changed
   pub record Added (alike : Q → Q → Bool) (sense : S → Q) (digest : Q → ℕ) (es : List (Entry S V)) (q : Q) (v : V) (fs : List (Entry S V)) : Type 0 where

@@ -5,7 +5,11 @@ pub returns : goal.returns
 returns g c =
     let k = g.K.Key in
     let pre = c.requires in
+    let new = added _ _ _ _ _ _ k.alike g.K.Key.laws.tells _ pre.stored.stands_for pre.kept.sound pre.free in
     record {
-      added = added _ _ _ _ _ _ k.alike g.K.Key.laws.tells _ pre.stands pre.sound pre.free;
-      within = within-set (k.stands c.args.text.now) k.digest _ _ _ _ k.extent _ pre.free.0.1.inside pre.extent pre.within;
+      added = new;
+      kept = record {
+        sound = new.sound;
+        within = within-set (k.stands c.args.text.now) k.digest _ _ _ _ k.extent _ pre.free.0.1.inside pre.stored.within pre.kept.within;
+      };
     }
