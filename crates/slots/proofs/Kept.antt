@@ -1,12 +1,9 @@
 -- What a search tells where it stops, and what a write there keeps. Assumes nothing.
 use Rattle.std.proofs.Common.{◌≡◌, ℕ, ◌+◌, ◌-◌, ◌<◌, ◌≤◌, Bool, true, cond, ◌⊎◌, List, ◌++◌, length, set, Some, Decides, sym, refl, ap, ◌∙◌, subst, inl, inr, ⊎_elim, mod-lt, arith, length-append, length-set, get_or-set_other, get_or-set_same, None, is_some}
-use mathlib.Core.Logic.{∥∥₁_elim}
-use mathlib.Core.Bool.{Bool-set}
-use native.Mathlib.Nat.{ℕ_set}
 use Rattle.std.proofs.lemmas.Option.{some_pair_parts}
 use Rattle.std.proofs.lemmas.Bool.{cases_order, cases_eq, true≢false}
 use Rattle.slots.specs.declared.map.Stop.TheVariants.{Hit, Gap, Crowded}
-use Rattle.slots.specs.Slots.{Entry, held, home, way, distance, at, Other, Ordered, Sound, Within, Kept, Passed, Ends, Told, Free, Added, Steady}
+use Rattle.slots.specs.Slots.{Entry, held, home, way, distance, at, Other, Sound, Within, Kept, Passed, Ends, Told, Free, Added, Steady}
 use Rattle.slots.proofs.Around.{around-below, distance-below, around-distance, distance-around}
 use Rattle.slots.proofs.Held.{Absent, Blank, full-not-empty, full-inside, filled-all, filled-gap, filled-set, held_none, held-some, held-set, held-like, alike_flipped}
 
@@ -20,16 +17,6 @@ module _ {S V : Type 0} where
       (cases_eq j i)
 
 module _ {S V Q : Type 0} where
-  module _ (sense : S → Q) (digest : Q → ℕ) (es : List (Entry S V)) where
-    only_one : IsProp (Ordered sense digest es)
-    only_one a b = λ k. record {
-      apart = λ i j s t v w e f m. ℕ_set i j (a.apart i j s t v w e f m) (b.apart i j s t v w e f m) k;
-      reached = λ i s v e n l. Bool-set _ true (a.reached i s v e n l) (b.reached i s v e n l) k;
-    }
-
-    opened : Sound sense digest es → Ordered sense digest es
-    opened h = ∥∥₁_elim h only_one (λ o. o)
-
   other-full : (sense : S → Q) (q : Q) (e : Entry S V) → Other sense q e → is_some e ≡ true
   other-full sense q None h = absurd h
   other-full sense q (Some (s, v)) h = refl
@@ -52,15 +39,15 @@ module _ {S V Q : Type 0} where
         let inside = full-inside es i s v e in
         passed-not (length es) i s v p e m (distance-below (length es) _ i (mod-lt (digest q) (omega arith)) inside)
 
-    pub absent-gap : (k : ℕ) → Ordered sense digest es → Passed sense digest es q k → at es (way digest (length es) q k) ≡ None → Absent sense es q
-    absent-gap k ordered p gap i s v e m =
+    pub absent-gap : (k : ℕ) → Sound sense digest es → Passed sense digest es q k → at es (way digest (length es) q k) ≡ None → Absent sense es q
+    absent-gap k sound p gap i s v e m =
         ⊎_elim
         (λ same. full-not-empty (at es i) s v e (ap (at es) (sym (met i s v e m) ∙ ap (way digest (length es) q) same) ∙ gap))
         (⊎_elim
         (λ less. passed-not k i s v p e m less)
         (λ more.
         let full : is_some (at es (way digest (length es) q k)) ≡ true =
-        subst (λ (l : Q). k < distance (length es) (home digest (length es) l) i → is_some (at es (way digest (length es) l k)) ≡ true) m (ordered.reached i s v e k) more in
+        subst (λ (l : Q). k < distance (length es) (home digest (length es) l) i → is_some (at es (way digest (length es) l k)) ≡ true) m (sound.reached i s v e k) more in
         true≢false (sym full ∙ ap is_some gap)))
         (cases_order (distance (length es) (home digest (length es) q) i) k)
 
@@ -77,12 +64,12 @@ module _ {S V Q : Type 0} where
 
     pub told-hit : (alike : Q → Q → Bool) (tells : (a b : Q) → Decides (alike a b) (a ≡ b)) → (k i : ℕ) (s : S) (v : V) → Sound sense digest es → k < length es → i ≡ way digest (length es) q k → Passed sense digest es q k → at es i ≡ Some (s, v) → sense s ≡ q → Told alike sense digest es q (k + 1) (Hit i v)
     told-hit alike tells k i s v sound l e p is m =
-        (ends k i l e p, (s, is, m), held-some alike tells sense es i s v q is m (λ j t w f n. (opened sense digest es sound).apart j i t s w v f is (n ∙ sym m)))
+        (ends k i l e p, (s, is, m), held-some alike tells sense es i s v q is m (λ j t w f n. sound.apart j i t s w v f is (n ∙ sym m)))
 
     pub told-gap : (alike : Q → Q → Bool) (tells : (a b : Q) → Decides (alike a b) (a ≡ b)) → (k i : ℕ) → Sound sense digest es → k < length es → i ≡ way digest (length es) q k → Passed sense digest es q k → at es i ≡ None → Told alike sense digest es q (k + 1) (Gap i)
     told-gap alike tells k i sound l e p is =
         let last = ends k i l e p in
-        (last, is, filled-gap es i last.inside is, held_none alike tells sense es q (absent-gap k (opened sense digest es sound) p (ap (at es) (sym e) ∙ is)))
+        (last, is, filled-gap es i last.inside is, held_none alike tells sense es q (absent-gap k sound p (ap (at es) (sym e) ∙ is)))
 
     pub told-crowded : (alike : Q → Q → Bool) (tells : (a b : Q) → Decides (alike a b) (a ≡ b)) → Passed sense digest es q (length es) → Told {V = V} alike sense digest es q (length es) Crowded
     told-crowded alike tells p = (
@@ -106,18 +93,18 @@ module _ {S V Q : Type 0} where
         (λ ne. inr (ne, sym (get_or-set_other es i j (Some (s, v)) None ne) ∙ e))
         (cases_eq j i)
 
-    free-absent : Ordered sense digest es → Free sense digest es (sense s) i → Absent sense es (sense s)
-    free-absent ordered free =
+    free-absent : Sound sense digest es → Free sense digest es (sense s) i → Absent sense es (sense s)
+    free-absent sound free =
         let e = free.0.1 in
-        absent-gap sense digest es (sense s) (free.0.0 - 1) ordered e.passed (ap (at es) (sym e.last) ∙ free.1)
+        absent-gap sense digest es (sense s) (free.0.0 - 1) sound e.passed (ap (at es) (sym e.last) ∙ free.1)
 
-    ordered-set : Ordered sense digest es → Free sense digest es (sense s) i → Ordered sense digest after
-    ordered-set ordered free =
+    sound-set : Sound sense digest es → Free sense digest es (sense s) i → Sound sense digest after
+    sound-set sound free =
         let e = free.0.1 in
         let looked = free.0.0 in
         let n = length es in
         let q = sense s in
-        let none = free-absent ordered free in
+        let none = free-absent sound free in
         let long : length es ≡ length after = sym (length-set es i (Some (s, v))) in
         let reached : (j : ℕ) (t : S) (w : V) → at after j ≡ Some (t, w) → (k : ℕ) → k < distance n (home digest n (sense t)) j → is_some (at after (way digest n (sense t) k)) ≡ true =
         λ j t w f k less. full-set es i (way digest n (sense t) k) s v e.inside (⊎_elim
@@ -126,7 +113,7 @@ module _ {S V Q : Type 0} where
         ap (distance n (home digest n q)) e.last ∙ distance-around n (home digest n q) (looked - 1) (mod-lt (digest q) (omega (arith, e.inside))) (omega (arith, e.some, e.most)) in
         let step : k < distance n (home digest n q) i = subst (λ (m : ℕ). k < distance n (home digest n q) m) p.0 (subst (λ (u : S). k < distance n (home digest n (sense u)) j) p.1 less) in
         subst (λ (u : S). is_some (at es (way digest n (sense u) k)) ≡ true) (sym p.1) (other-full sense q _ (e.passed k (omega (arith, far, step)))))
-        (λ p. ordered.reached j t w p.1 k less)
+        (λ p. sound.reached j t w p.1 k less)
         (was e.inside j t w f)) in
         record {
           apart = λ a b t u x y f g m.
@@ -137,7 +124,7 @@ module _ {S V Q : Type 0} where
               (was e.inside b u y g))
               (λ p. ⊎_elim
               (λ r. absurd (none a t x p.1 (m ∙ ap sense r.1)))
-              (λ r. ordered.apart a b t u x y p.1 r.1 m)
+              (λ r. sound.apart a b t u x y p.1 r.1 m)
               (was e.inside b u y g))
               (was e.inside a t x f);
           reached = subst (λ (m : ℕ). (j : ℕ) (t : S) (w : V) → at after j ≡ Some (t, w) → (k : ℕ) → k < distance m (home digest m (sense t)) j → is_some (at after (way digest m (sense t) k)) ≡ true) long reached;
@@ -145,11 +132,10 @@ module _ {S V Q : Type 0} where
 
     pub added : (alike : Q → Q → Bool) (tells : (a b : Q) → Decides (alike a b) (a ≡ b)) → (q : Q) → sense s ≡ q → Sound sense digest es → Free sense digest es q i → Added alike sense digest es q v after
     added alike tells q m sound free =
-        let ordered = opened sense digest es sound in
         let there = subst (λ (p : Q). Free sense digest es p i) (sym m) free in
         subst (λ (p : Q). Added alike sense digest es p v after) m (record {
-          sound = ∣ ordered-set ordered there ∣₁;
-          holds = λ p. held-set alike tells sense es i s v p free.0.1.inside free.1 (free-absent ordered there) ∙ ap (λ same. cond same (Some v) (held alike sense es p)) (alike_flipped alike tells p (sense s));
+          sound = sound-set sound there;
+          holds = λ p. held-set alike tells sense es i s v p free.0.1.inside free.1 (free-absent sound there) ∙ ap (λ same. cond same (Some v) (held alike sense es p)) (alike_flipped alike tells p (sense s));
           count = filled-set es i s v free.0.1.inside free.1;
         })
 
@@ -158,11 +144,11 @@ module _ {S V Q : Type 0} where
 
   -- where two readings of the stored keys agree on those that are there
   module _ (sense sense' : S → Q) (digest : Q → ℕ) (es : List (Entry S V)) (like : (i : ℕ) (s : S) (v : V) → at es i ≡ Some (s, v) → sense' s ≡ sense s) where
-    ordered-like : Ordered sense digest es → Ordered sense' digest es
-    ordered-like ordered =
+    sound-like : Sound sense digest es → Sound sense' digest es
+    sound-like sound =
         record {
-          apart = λ i j s t v w e f m. ordered.apart i j s t v w e f (sym (like i s v e) ∙ m ∙ like j t w f);
-          reached = λ i s v e. subst (λ (l : Q). (k : ℕ) → k < distance (length es) (home digest (length es) l) i → is_some (at es (way digest (length es) l k)) ≡ true) (sym (like i s v e)) (ordered.reached i s v e);
+          apart = λ i j s t v w e f m. sound.apart i j s t v w e f (sym (like i s v e) ∙ m ∙ like j t w f);
+          reached = λ i s v e. subst (λ (l : Q). (k : ℕ) → k < distance (length es) (home digest (length es) l) i → is_some (at es (way digest (length es) l k)) ≡ true) (sym (like i s v e)) (sound.reached i s v e);
         }
 
     other-like : (q : Q) (i : ℕ) → Other sense q (at es i) → Other sense' q (at es i)
@@ -181,7 +167,7 @@ module _ {S V Q : Type 0} where
   steady alike tells stands digest extent text more es grows within =
       let like : (i : ℕ) (s : S) (v : V) → at es i ≡ Some (s, v) → stands (text ++ more) s ≡ stands text s = λ i s v e. grows s (within i s v e) in
       record {
-        sound = λ h. ∣ ordered-like (stands text) (stands (text ++ more)) digest es like (opened (stands text) digest es h) ∣₁;
+        sound = sound-like (stands text) (stands (text ++ more)) digest es like;
         within = λ i s v e. omega (arith, length-append text more, within i s v e);
         holds = λ q. held-like alike tells (stands text) (stands (text ++ more)) es q like;
         free = free-like (stands text) (stands (text ++ more)) digest es like;
@@ -190,9 +176,9 @@ module _ {S V Q : Type 0} where
   pub blank-kept : (stands : List ℕ → S → Q) (digest : Q → ℕ) (extent : S → ℕ) (text : List ℕ) (es : List (Entry S V)) → Blank es → Kept stands digest extent text es
   blank-kept stands digest extent text es h =
       record {
-        sound = ∣ record {
+        sound = record {
           apart = λ i j s t v w e f m. absurd (full-not-empty (at es i) s v e (h i));
           reached = λ i s v e k l. absurd (full-not-empty (at es i) s v e (h i));
-        } ∣₁;
+        };
         within = λ i s v e. absurd (full-not-empty (at es i) s v e (h i));
       }

@@ -72,13 +72,9 @@ module _ {S V Q : Type 0} where
   Other sense q (Some (s, v)) = sense s ≡ q → ⊥
 
   -- no two slots have keys that stand for the same, and no slot is empty on the way from a key's home to its slot
-  pub record Ordered (sense : S → Q) (digest : Q → ℕ) (es : List (Entry S V)) : Type 0 where
+  pub record Sound (sense : S → Q) (digest : Q → ℕ) (es : List (Entry S V)) : Type 0 where
     pub apart : (i j : ℕ) (s t : S) (v w : V) → at es i ≡ Some (s, v) → at es j ≡ Some (t, w) → sense s ≡ sense t → i ≡ j
     pub reached : (i : ℕ) (s : S) (v : V) → at es i ≡ Some (s, v) → (k : ℕ) → k < distance (length es) (home digest (length es) (sense s)) i → is_some (at es (way digest (length es) (sense s) k)) ≡ true
-
-  -- the same, as a ghost field can state it
-  abbrev pub Sound : (S → Q) → (Q → ℕ) → List (Entry S V) → Type 0
-  Sound sense digest es = ∥ Ordered sense digest es ∥₁
 
   -- the slots as a map over the text leaves them: each key can be found, and lies within the text
   pub record Kept (stands : List ℕ → S → Q) (digest : Q → ℕ) (extent : S → ℕ) (text : List ℕ) (es : List (Entry S V)) : Type 0 where

@@ -1,5 +1,5 @@
 // A hash map over slots that the host lends, for every kind of key and value. No key is ever taken out or overwritten.
-ghost use Rattle.std.specs.Prelude.{◌≡◌, ℕ, ◌+◌, ◌<◌, ◌≤◌, List, length, None};
+ghost use Rattle.std.specs.Prelude.{◌≡◌, ℕ, ◌+◌, ◌<◌, ◌≤◌, List, length, None, ⊤};
 ghost use Rattle.slots.specs.Slots.{filled, held, looks, Kept, StoredAs, Told, Free, Added, Inserted, Steady};
 
 use keys::key::Key;
@@ -31,6 +31,10 @@ pub struct Lookup<'m, K: Key, V> {
 }
 
 impl<K: Key, V> Clone for Lookup<'_, K, V> {
+    ghost is_clone = { λ s r. r ≡ s };
+
+    ghost is_infallible = { λ _. ⊤ };
+
     fn clone(&self) -> Result<Self, AllocError> {
         Ok(*self)
     }
