@@ -1,11 +1,11 @@
--- What a search tells where it stops, and what a write there keeps. Assumes nothing.
-use Rattle.std.proofs.Common.{◌≡◌, ℕ, ◌+◌, ◌-◌, ◌<◌, ◌≤◌, Bool, true, cond, ◌⊎◌, List, ◌++◌, length, set, Some, Decides, sym, refl, ap, ◌∙◌, subst, inl, inr, ⊎_elim, mod-lt, arith, length-append, length-set, get_or-set_other, get_or-set_same, None, is_some}
+-- What a write keeps where a search stopped, and what a text that grows keeps. Assumes nothing.
+use Rattle.std.proofs.Common.{◌≡◌, ℕ, ◌-◌, ◌<◌, ◌≤◌, Bool, true, cond, ◌⊎◌, List, ◌++◌, length, set, Some, Decides, sym, refl, ap, ◌∙◌, subst, inl, inr, ⊎_elim, mod-lt, arith, length-append, length-set, get_or-set_other, get_or-set_same, None, is_some}
 use Rattle.std.proofs.lemmas.Option.{some_pair_parts}
-use Rattle.std.proofs.lemmas.Bool.{cases_order, cases_eq, true≢false}
-use Rattle.slots.specs.declared.map.Stop.TheVariants.{Hit, Gap, Crowded}
-use Rattle.slots.specs.Slots.{Entry, held, home, way, distance, at, Other, Sound, Within, Kept, Passed, Ends, Told, Free, Added, Steady}
-use Rattle.slots.proofs.Around.{around-below, distance-below, around-distance, distance-around}
-use Rattle.slots.proofs.Held.{Absent, Blank, full-not-empty, full-inside, filled-all, filled-gap, filled-set, held_none, held-some, held-set, held-like, alike_flipped}
+use Rattle.std.proofs.lemmas.Bool.{cases_eq}
+use Rattle.slots.specs.Slots.{Entry, held, home, way, distance, at, Other, Sound, Within, Kept, Free, Added, Steady}
+use Rattle.slots.proofs.Search.{other-full, absent-gap}
+use Rattle.slots.proofs.Around.{distance-around}
+use Rattle.slots.proofs.Held.{Absent, Blank, full-not-empty, filled-set, held-set, held-like, alike_flipped}
 
 module _ {S V : Type 0} where
   -- a write of a full slot leaves the full ones full
@@ -17,69 +17,6 @@ module _ {S V : Type 0} where
       (cases_eq j i)
 
 module _ {S V Q : Type 0} where
-  other-full : (sense : S → Q) (q : Q) (e : Entry S V) → Other sense q e → is_some e ≡ true
-  other-full sense q None h = absurd h
-  other-full sense q (Some (s, v)) h = refl
-
-  other-not : (sense : S → Q) (q : Q) (e : Entry S V) (s : S) (v : V) → e ≡ Some (s, v) → Other sense q e → sense s ≡ q → ⊥
-  other-not sense q e s v is h = subst (Other sense q) is h
-
-  module _ (sense : S → Q) (digest : Q → ℕ) (es : List (Entry S V)) (q : Q) where
-    -- a key that means q is met at its distance from the home
-    met : (i : ℕ) (s : S) (v : V) → at es i ≡ Some (s, v) → sense s ≡ q → way digest (length es) q (distance (length es) (home digest (length es) q) i) ≡ i
-    met i s v e m =
-        let inside = full-inside es i s v e in
-        around-distance (length es) _ i (mod-lt (digest q) (omega arith)) inside
-
-    passed-not : (k i : ℕ) (s : S) (v : V) → Passed sense digest es q k → at es i ≡ Some (s, v) → sense s ≡ q → distance (length es) (home digest (length es) q) i < k → ⊥
-    passed-not k i s v p e m l = other-not sense q _ s v (ap (at es) (met i s v e m) ∙ e) (p _ l) m
-
-    pub absent-all : Passed sense digest es q (length es) → Absent sense es q
-    absent-all p i s v e m =
-        let inside = full-inside es i s v e in
-        passed-not (length es) i s v p e m (distance-below (length es) _ i (mod-lt (digest q) (omega arith)) inside)
-
-    pub absent-gap : (k : ℕ) → Sound sense digest es → Passed sense digest es q k → at es (way digest (length es) q k) ≡ None → Absent sense es q
-    absent-gap k sound p gap i s v e m =
-        ⊎_elim
-        (λ same. full-not-empty (at es i) s v e (ap (at es) (sym (met i s v e m) ∙ ap (way digest (length es) q) same) ∙ gap))
-        (⊎_elim
-        (λ less. passed-not k i s v p e m less)
-        (λ more.
-        let full : is_some (at es (way digest (length es) q k)) ≡ true =
-        subst (λ (l : Q). k < distance (length es) (home digest (length es) l) i → is_some (at es (way digest (length es) l k)) ≡ true) m (sound.reached i s v e k) more in
-        true≢false (sym full ∙ ap is_some gap)))
-        (cases_order (distance (length es) (home digest (length es) q) i) k)
-
-    ends : (k i : ℕ) → k < length es → i ≡ way digest (length es) q k → Passed sense digest es q k → Ends sense digest es q (k + 1) i
-    ends k i l e p =
-        let back : k ≡ k + 1 - 1 = omega arith in
-        record {
-          some = omega arith;
-          most = omega arith;
-          last = e ∙ ap (way digest (length es) q) back;
-          inside = subst (λ (n : ℕ). n < length es) (sym e) (around-below (length es) _ k (mod-lt (digest q) (omega arith)) l);
-          passed = subst (Passed sense digest es q) back p;
-        }
-
-    pub told-hit : (alike : Q → Q → Bool) (tells : (a b : Q) → Decides (alike a b) (a ≡ b)) → (k i : ℕ) (s : S) (v : V) → Sound sense digest es → k < length es → i ≡ way digest (length es) q k → Passed sense digest es q k → at es i ≡ Some (s, v) → sense s ≡ q → Told alike sense digest es q (k + 1) (Hit i v)
-    told-hit alike tells k i s v sound l e p is m =
-        (ends k i l e p, (s, is, m), held-some alike tells sense es i s v q is m (λ j t w f n. sound.apart j i t s w v f is (n ∙ sym m)))
-
-    pub told-gap : (alike : Q → Q → Bool) (tells : (a b : Q) → Decides (alike a b) (a ≡ b)) → (k i : ℕ) → Sound sense digest es → k < length es → i ≡ way digest (length es) q k → Passed sense digest es q k → at es i ≡ None → Told alike sense digest es q (k + 1) (Gap i)
-    told-gap alike tells k i sound l e p is =
-        let last = ends k i l e p in
-        (last, is, filled-gap es i last.inside is, held_none alike tells sense es q (absent-gap k sound p (ap (at es) (sym e) ∙ is)))
-
-    pub told-crowded : (alike : Q → Q → Bool) (tells : (a b : Q) → Decides (alike a b) (a ≡ b)) → Passed sense digest es q (length es) → Told {V = V} alike sense digest es q (length es) Crowded
-    told-crowded alike tells p = (
-      refl,
-      filled-all es (λ i l.
-          let h = mod-lt (digest q) (omega (arith, l)) in
-          subst (λ (j : ℕ). is_some (at es j) ≡ true) (around-distance (length es) _ i h l) (other-full sense q _ (p _ (distance-below (length es) _ i h l)))),
-      held_none alike tells sense es q (absent-all p),
-    )
-
   module _ (sense : S → Q) (digest : Q → ℕ) (es : List (Entry S V)) (i : ℕ) (s : S) (v : V) where
     abbrev after : List (Entry S V)
     after = set es i (Some (s, v))

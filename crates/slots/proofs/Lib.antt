@@ -2,4 +2,4 @@ pub mod Around
 pub mod Growing
 pub mod Held
 pub mod Kept
-pub mod Looks
+pub mod Search
