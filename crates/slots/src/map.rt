@@ -1,6 +1,6 @@
 // A hash map over slots that the host lends, for every kind of key and value. No key is ever taken out or overwritten.
 ghost use Rattle.std.specs.Prelude.{◌≡◌, ℕ, ◌+◌, ◌<◌, ◌≤◌, List, length, None, ⊤};
-ghost use Rattle.slots.specs.Slots.{filled, held, looks, Kept, StoredAs, Told, Free, Added, Inserted, Steady};
+ghost use Rattle.slots.specs.Slots.{filled, held, looks, Within, Kept, StoredAs, Told, Free, Added, Inserted, Steady};
 
 use keys::key::Key;
 use std::alloc::AllocError;
@@ -83,7 +83,7 @@ impl<'m, K: Key, V: Copy> Lookup<'m, K, V> {
         }
     }
 
-    // A text that grows at its end leaves what the slots hold: the call tells a proof so, and does nothing.
+    // As `Map::growth`, over the text that is looked up in.
     pub fn growth(&self)
         ensures { (more : List ℕ) → Steady K.alike K.stands K.digest K.extent self.now.text.now more self.now.slots.now }
     {}
@@ -118,6 +118,12 @@ impl<'a, S: Copy, V: Copy> Map<'a, S, V> {
             text,
         }
     }
+
+    // A text that grows at its end leaves what the slots hold: the call tells a proof so, and does nothing.
+    pub fn growth<K: Key<Stored = S>>(&self, text: &[u8])
+        requires { Within K.extent (length text.now) self.now.slots.now }
+        ensures { (more : List ℕ) → Steady K.alike K.stands K.digest K.extent text.now more self.now.slots.now }
+    {}
 
     // Puts an absent key into the empty slot at which a search for it stopped.
     pub fn put<K: Key<Stored = S>>(
