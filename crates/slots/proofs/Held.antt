@@ -2,13 +2,14 @@
 use Rattle.std.proofs.Common.{◌≡◌, ℕ, zero, suc, ◌+◌, ◌<◌, Bool, true, false, cond, List, [], ◌∷◌, length, set, Some, None, Decides, sym, refl, ap, ◌∙◌, ⊎_elim, arith, is_some, replicate}
 use Rattle.std.proofs.lemmas.List.Sums.{sum_by-cons, sum_by-set, count_by-le-length}
 use Rattle.std.proofs.lemmas.Option.{some_pair_parts}
+use Rattle.std.proofs.lemmas.List.{get_or_past}
 use Rattle.std.proofs.lemmas.Bool.{cases_Bool, cond-true, cond-false, true≢false}
 use Rattle.std.proofs.lemmas.Bool.Decides.{same_from_decides}
 use Rattle.slots.specs.Slots.{Entry, filled, held, at}
 
 module _ {Q : Type 0} (alike : Q → Q → Bool) (tells : (a b : Q) → Decides (alike a b) (a ≡ b)) where
   pub not_alike : (a b : Q) → (a ≡ b → ⊥) → alike a b ≡ false
-  not_alike a b n = ⊎_elim (λ e. absurd (n ((tells a b).0 e))) (λ e. e) (cases_Bool (alike a b))
+  not_alike a b n = grind (arith, tells a b, cases_Bool (alike a b))
 
   pub alike_flipped : (a b : Q) → alike a b ≡ alike b a
   alike_flipped a b = same_from_decides (alike a b) (alike b a) (tells a b) (λ e. sym ((tells b a).0 e), λ e. (tells b a).1 (sym e))
@@ -18,9 +19,7 @@ module _ {S V : Type 0} where
   full-not-empty e s v p q = cc
 
   pub full-inside : (es : List (Entry S V)) (i : ℕ) (s : S) (v : V) → at es i ≡ Some (s, v) → i < length es
-  full-inside [] i s v e = absurd (full-not-empty None s v e refl)
-  full-inside (x ∷ es) zero s v e = omega arith
-  full-inside (x ∷ es) (suc i) s v e = let h = full-inside es i s v e in omega arith
+  full-inside es i s v e = grind (arith, get_or_past)
 
   filled-cons : (e : Entry S V) (es : List (Entry S V)) → filled (e ∷ es) ≡ cond (is_some e) 1 0 + filled es
   filled-cons e es = sum_by-cons (λ e. cond (is_some e) 1 0) e es
@@ -62,7 +61,9 @@ module _ {S V : Type 0} where
     held_none [] q h = refl
     held_none (None ∷ es) q h = held_none es q (λ i. h (suc i))
     held_none (Some (s, v) ∷ es) q h =
-        cond-false _ _ _ (not_alike alike tells q (sense s) (λ e. h 0 s v refl (sym e))) ∙ held_none es q (λ i. h (suc i))
+        let ih = held_none es q (λ i. h (suc i)) in
+        let no = not_alike alike tells q (sense s) (λ e. h 0 s v refl (sym e)) in
+        grind arith
 
     pub held-some : (es : List (Entry S V)) (i : ℕ) (s : S) (v : V) (q : Q) → at es i ≡ Some (s, v) → sense s ≡ q → ((j : ℕ) (t : S) (w : V) → at es j ≡ Some (t, w) → sense t ≡ q → j ≡ i) → held alike sense es q ≡ Some v
     held-some [] i s v q e m only = absurd (full-not-empty None s v e refl)
@@ -84,16 +85,8 @@ module _ {S V : Type 0} where
     held-set (None ∷ es) (suc i) s v p l e h = held-set es i s v p (omega arith) e (λ j. h (suc j))
     held-set (Some (t, w) ∷ es) (suc i) s v p l e h =
         let ih = held-set es i s v p (omega arith) e (λ j. h (suc j)) in
-        ⊎_elim
-        (λ pt.
-        cond-true (alike p (sense t)) _ _ pt
-        ∙ sym (cond-true (alike p (sense t)) _ _ pt)
-        ∙ sym (cond-false (alike p (sense s)) _ _ (not_alike alike tells p (sense s) (λ ps. h 0 t w refl (sym ((tells p (sense t)).0 pt) ∙ ps)))))
-        (λ pt.
-        cond-false (alike p (sense t)) _ _ pt
-        ∙ ih
-        ∙ ap (cond (alike p (sense s)) (Some v)) (sym (cond-false (alike p (sense t)) _ _ pt)))
-        (cases_Bool (alike p (sense t)))
+        let other : sense t ≡ sense s → ⊥ = h 0 t w refl in
+        grind (arith, tells p (sense t), tells p (sense s))
 
     -- where two readings of the stored keys agree on those that are there, the slots hold the same
     pub held-like : (sense' : S → Q) (es : List (Entry S V)) (q : Q) → ((i : ℕ) (s : S) (v : V) → at es i ≡ Some (s, v) → sense' s ≡ sense s) → held alike sense' es q ≡ held alike sense es q

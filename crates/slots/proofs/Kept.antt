@@ -10,11 +10,7 @@ use Rattle.slots.proofs.Held.{Absent, Blank, full-not-empty, filled-set, held-se
 module _ {S V : Type 0} where
   -- a write of a full slot leaves the full ones full
   full-set : (es : List (Entry S V)) (i j : ℕ) (s : S) (v : V) → i < length es → is_some (at es j) ≡ true → is_some (at (set es i (Some (s, v))) j) ≡ true
-  full-set es i j s v l f =
-      ⊎_elim
-      (λ e. ap is_some (ap (at (set es i (Some (s, v)))) e ∙ get_or-set_same es i (Some (s, v)) None l))
-      (λ ne. ap is_some (get_or-set_other es i j (Some (s, v)) None ne) ∙ f)
-      (cases_eq j i)
+  full-set es i j s v l f = grind (arith, get_or-set_same, get_or-set_other, cases_eq j i)
 
 module _ {S V Q : Type 0} where
   module _ (sense : S → Q) (digest : Q → ℕ) (es : List (Entry S V)) (i : ℕ) (s : S) (v : V) where
