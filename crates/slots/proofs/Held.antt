@@ -32,8 +32,8 @@ module _ {S V : Type 0} where
   pub filled-gap : (es : List (Entry S V)) (i : ℕ) → i < length es → at es i ≡ None → filled es < length es
   filled-gap [] i l e = absurd (omega arith)
   filled-gap (None ∷ es) i l e = omega (arith, filled-cons None es, count_by-le-length is_some es)
-  filled-gap (Some (s, v) ∷ es) zero l e = absurd (full-not-empty (Some (s, v)) s v refl e)
-  filled-gap (Some (s, v) ∷ es) (suc i) l e = let h = filled-gap es i (omega arith) e in omega (arith, filled-cons (Some (s, v)) es)
+  filled-gap (Some f ∷ es) zero l e = cc
+  filled-gap (Some f ∷ es) (suc i) l e = let ih = filled-gap es i (omega arith) e in omega (arith, filled-cons (Some f) es)
 
   pub filled-set : (es : List (Entry S V)) (i : ℕ) (s : S) (v : V) → i < length es → at es i ≡ None → filled (set es i (Some (s, v))) ≡ filled es + 1
   filled-set es i s v l e =
@@ -66,16 +66,16 @@ module _ {S V : Type 0} where
         grind arith
 
     pub held-some : (es : List (Entry S V)) (i : ℕ) (s : S) (v : V) (q : Q) → at es i ≡ Some (s, v) → sense s ≡ q → ((j : ℕ) (t : S) (w : V) → at es j ≡ Some (t, w) → sense t ≡ q → j ≡ i) → held alike sense es q ≡ Some v
-    held-some [] i s v q e m only = absurd (full-not-empty None s v e refl)
-    held-some (None ∷ es) zero s v q e m only = absurd (full-not-empty None s v e refl)
+    held-some [] i s v q e m only = cc
+    held-some (None ∷ es) zero s v q e m only = cc
     held-some (Some (t, w) ∷ es) zero s v q e m only =
         let same = some_pair_parts t s w v e in
-        cond-true _ _ _ ((tells q (sense t)).1 (sym (ap sense same.0 ∙ m))) ∙ ap Some same.1
-    held-some (None ∷ es) (suc i) s v q e m only =
-        held-some es i s v q e m (λ j t w f n. let o = only (suc j) t w f n in omega arith)
+        grind (arith, tells q (sense t))
+    held-some (None ∷ es) (suc i) s v q e m only = held-some es i s v q e m (λ j t w f n. let o = only (suc j) t w f n in omega arith)
     held-some (Some (t, w) ∷ es) (suc i) s v q e m only =
-        cond-false _ _ _ (not_alike alike tells q (sense t) (λ n. let o = only 0 t w refl (sym n) in omega arith))
-        ∙ held-some es i s v q e m (λ j t w f n. let o = only (suc j) t w f n in omega arith)
+        let ih = held-some es i s v q e m (λ j t w f n. let o = only (suc j) t w f n in omega arith) in
+        let no = not_alike alike tells q (sense t) (λ n. let o = only 0 t w refl (sym n) in omega arith) in
+        grind arith
 
     -- a key that was not there is added, and nothing else changes
     pub held-set : (es : List (Entry S V)) (i : ℕ) (s : S) (v : V) (p : Q) → i < length es → at es i ≡ None → Absent sense es (sense s) → held alike sense (set es i (Some (s, v))) p ≡ cond (alike p (sense s)) (Some v) (held alike sense es p)

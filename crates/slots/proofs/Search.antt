@@ -71,10 +71,10 @@ module _ {S V Q : Type 0} where
     looks_on (suc k) j m pass =
         let here : stops_at alike sense q (slot j) ≡ false = rw add-zero at (pass 0 (omega arith)) in
         let there : (i : ℕ) → i < k → stops_at alike sense q (slot (suc j + i)) ≡ false = λ i l. subst (λ (n : ℕ). stops_at alike sense q (slot n) ≡ false) (omega arith) (pass (suc i) (omega arith)) in
-        let on : suc j + k ≡ j + suc k = omega arith in
-        let ih : from (suc j) (k + m) ≡ k + from (j + suc k) m = looks_on k (suc j) m there ∙ ap (λ (n : ℕ). k + from n m) on in
+        let ih = looks_on k (suc j) m there in
         let split : suc k + m ≡ suc (k + m) = omega arith in
-        ap (from j) split ∙ cond-false _ 1 (suc (from (suc j) (k + m))) here ∙ ap suc ih ∙ (let x : ℕ = from (j + suc k) m in omega arith)
+        let on : suc j + k ≡ j + suc k = omega arith in
+        grind arith
 
     passes : (k : ℕ) → Passed sense digest es q k → (i : ℕ) → i < k → stops_at alike sense q (slot (0 + i)) ≡ false
     passes k passed i l = rw zero-add (goes_on (slot i) (passed i l))
