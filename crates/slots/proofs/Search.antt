@@ -1,6 +1,6 @@
 -- What a search tells where it stops. Assumes nothing.
 use Rattle.std.proofs.Common.{◌≡◌, ℕ, zero, suc, ◌+◌, ◌-◌, ◌<◌, Bool, true, false, List, length, get_or, Some, None, is_some, Decides, sym, refl, ap, ◌∙◌, subst, ⊎_elim, mod-lt, add-zero, zero-add, arith, below_more}
-use Rattle.std.proofs.lemmas.Bool.{cases_order, cond-true, cond-false, true≢false}
+use Rattle.std.proofs.lemmas.Bool.{cases_order, true≢false}
 use Rattle.std.proofs.lemmas.List.{get_or_default}
 use Rattle.slots.specs.declared.map.Stop.{Stop}
 use Rattle.slots.specs.declared.map.Stop.TheVariants.{Hit, Gap, Crowded}
@@ -83,13 +83,15 @@ module _ {S V Q : Type 0} where
     looks-at k l passed stop =
         let m : ℕ = length es - suc k in
         let split : length es ≡ k + suc m = omega arith in
-        sym (ap (from 0) split ∙ looks_on k 0 (suc m) (passes k passed) ∙ ap (λ (n : ℕ). k + from n (suc m)) (zero-add k) ∙ ap (λ (n : ℕ). k + n) (cond-true _ 1 (suc (from (suc k) m)) stop))
+        let on = looks_on k 0 (suc m) (passes k passed) in
+        let here : stops_at alike sense q (slot (0 + k)) ≡ true = rw zero-add stop in
+        grind arith
 
     looks-all : Passed sense digest es q (length es) → length es ≡ looks alike sense digest es q
     looks-all passed =
-        let n : ℕ = length es in
-        let split : n ≡ n + 0 = omega arith in
-        sym (ap (from 0) split ∙ looks_on n 0 0 (passes n passed) ∙ sym split)
+        let on = looks_on (length es) 0 0 (passes (length es) passed) in
+        let split : length es ≡ length es + 0 = omega arith in
+        grind arith
 
     -- a search for q that comes to the slot i has met k slots, and each has another key
     pub record Reached (k i : ℕ) : Type 0 where
