@@ -93,7 +93,7 @@ impl Key for Attribute {
 #[derive(Clone, Copy, PartialEq, Eq, Debug)]
 pub struct Name<'a>(pub &'a [u8]);
 
-impl<'a> Key for Name<'a> {
+impl Key for Name<'_> {
     type Stored = Span;
 
     ghost Sense = { List ℕ };
