@@ -29,7 +29,7 @@ module _ {S V Q : Type 0} where
     pub absent-all : Passed sense digest es q (length es) → Absent sense es q
     absent-all p i s v e m =
         let inside = full-inside es i s v e in
-        passed-not (length es) i s v p e m (distance-below (length es) _ i (mod-lt (digest q) (omega arith)) inside)
+        passed-not (length es) i s v p e m (distance-below (length es) _ i (mod-lt (digest q) (omega arith)))
 
     pub absent-gap : (k : ℕ) → Sound sense digest es → Passed sense digest es q k → at es (way digest (length es) q k) ≡ None → Absent sense es q
     absent-gap k sound p gap i s v e m =
@@ -50,7 +50,7 @@ module _ {S V Q : Type 0} where
           some = omega arith;
           most = omega arith;
           last = e ∙ ap (way digest (length es) q) back;
-          inside = subst (λ (n : ℕ). n < length es) (sym e) (around-below (length es) _ k (mod-lt (digest q) (omega arith)) l);
+          inside = subst (λ (n : ℕ). n < length es) (sym e) (around-below (length es) _ k (mod-lt (digest q) (omega arith)));
           passed = subst (Passed sense digest es q) back p;
         }
 
@@ -143,7 +143,7 @@ module _ {S V Q : Type 0} where
             refl,
             filled-all es (λ i l.
                 let h = mod-lt (digest q) (omega (arith, l)) in
-                subst (λ (j : ℕ). is_some (at es j) ≡ true) (around-distance (length es) _ i h l) (other-full sense q _ (p _ (distance-below (length es) _ i h l)))),
+                subst (λ (j : ℕ). is_some (at es j) ≡ true) (around-distance (length es) _ i h l) (other-full sense q _ (p _ (distance-below (length es) _ i h)))),
             held_none alike tells sense es q (absent-all sense digest es q p),
           );
           counted = looks-all p;

@@ -1,6 +1,6 @@
 -- What the slots hold, and what keeps each key findable. Assumes nothing.
 -- S is the type of stored keys, V that of values, and Q that of what keys stand for.
-use Rattle.std.specs.Prelude.{◌≡◌, ℕ, zero, suc, ◌+◌, ◌-◌, ◌%◌, ◌<◌, ◌≤◌, Bool, true, cond, List, [], ◌∷◌, ◌++◌, length, Some, None, Option, is_some, count_by, nat_le, nat_lt, slice_index_or}
+use Rattle.std.specs.Prelude.{◌≡◌, ℕ, zero, suc, ◌+◌, ◌-◌, ◌%◌, ◌<◌, ◌≤◌, Bool, true, cond, List, [], ◌∷◌, ◌++◌, length, Some, None, Option, is_some, count_by, slice_index_or}
 use Rattle.std.specs.Map.{update}
 use Rattle.slots.specs.declared.map.Stop.{Stop}
 use Rattle.slots.specs.declared.map.Stop.TheVariants.{Hit, Gap, Crowded}
@@ -9,13 +9,9 @@ use Rattle.slots.specs.declared.map.Stop.TheVariants.{Hit, Gap, Crowded}
 abbrev pub Entry : Type 0 → Type 0 → Type 0
 Entry S V = Option (S × V)
 
--- a place below 2 * n, around the end of n slots
-abbrev pub around : ℕ → ℕ → ℕ
-around n k = cond (nat_lt k n) k (k - n)
-
--- how many slots after h the slot i comes, around the end
+-- how many slots after h the slot i comes, around the end of n slots
 abbrev pub distance : ℕ → ℕ → ℕ → ℕ
-distance n h i = cond (nat_le h i) (i - h) (n + i - h)
+distance n h i = (n + i - h) % n
 
 module _ {S V : Type 0} where
   -- how many slots are full
@@ -35,9 +31,9 @@ module _ {Q : Type 0} where
   abbrev pub home : (Q → ℕ) → ℕ → Q → ℕ
   home digest n q = digest q % n
 
-  -- the slot that lies k slots after that home
+  -- the slot that lies k slots after that home, around the end
   abbrev pub way : (Q → ℕ) → ℕ → Q → ℕ → ℕ
-  way digest n q k = around n (home digest n q + k)
+  way digest n q k = (home digest n q + k) % n
 
 module _ {S Q : Type 0} where
   -- s lies within the text and stands for q over it

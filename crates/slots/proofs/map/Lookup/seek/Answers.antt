@@ -3,7 +3,7 @@ use Rattle.std.proofs.lemmas.List.{length_push}
 use Rattle.std.proofs.lemmas.Bool.Decides.{not_from_Decides}
 use Rattle.std.proofs.lemmas.Iterator.{YieldsList-from_range}
 use Rattle.std.proofs.lemmas.Iterator.Consumers.{YieldsList-from_enumerate, YieldsList-from_chain, YieldsList-turn, YieldsList-end}
-use Rattle.slots.specs.Slots.{around, Passed}
+use Rattle.slots.specs.Slots.{Passed}
 use Rattle.slots.proofs.Around.{around-below, length-counted_ring, get_or-counted_ring}
 use Rattle.slots.proofs.Search.{Reached, comes_to, sought-gap, sought-hit, passes-on, sought-crowded}
 use Rattle.slots.proofs.map.Lookup.seek.Given as given
@@ -26,7 +26,7 @@ reached g c =
     c.loop-step.yielded _ c.loop-step.yielded_by _ _ _ c.in-Some.is c.next.ensures.steps in
     let near : length c.loop-step.yielded < n = omega (arith, turn.0, length-counted_ring n h home) in
     let here = get_or-counted_ring n h _ _ home near turn.1 in
-    let below : around n (h + length c.loop-step.yielded) < n = around-below n h _ home near in (
+    let below : (h + length c.loop-step.yielded) % n < n = around-below n h _ home in (
       record {
         near = omega (arith, here.0);
         place = here.1 ∙ cc (here.0, c.hash.ensures);
