@@ -1,51 +1,54 @@
 // Bytes that the host lends, of which the first `used` are the text. It only grows, at its end.
-ghost use Rattle.std.specs.Prelude.{◌≡◌, ◌≤◌, [], length};
-ghost use Rattle.slots.specs.Text.{Appended, Fits, text_of};
+ghost use Rattle.std.specs.Prelude.{◌≡◌, []};
+ghost use Rattle.slots.specs.Text.{Appended, lent};
 
 use keys::span::Span;
+use std::marker::Model;
 
 #[derive(Drop)]
 pub struct Text<'a> {
-    pub bytes: &'a mut [u8],
-    pub used: usize,
+    bytes: &'a mut [u8],
+    used: usize,
+}
+
+impl<'a> Model for Text<'a> {
+    ghost use Rattle.std.specs.Prelude.{◌≤◌, length, take, drop};
+    ghost use Rattle.slots.specs.Text.{LentText};
+
+    ghost Value = { LentText };
+
+    ghost view = { λ t. record { text = take t.used t.bytes.now; spare = drop t.used t.bytes.now } };
+
+    ghost invariant = { λ t. t.used ≤ length t.bytes.now };
 }
 
 impl<'a> Text<'a> {
     // A text without bytes, whatever lay in the slots before.
     pub fn new(bytes: &'a mut [u8]) -> Text<'a>
-        ensures fits { Fits result }
-        ensures empty { text_of result ≡ [] }
-        ensures room { length result.bytes.now ≡ length bytes.old }
+        ensures { result ≡ record { text = []; spare = bytes.old } }
     {
         Text { bytes, used: 0 }
     }
 
     pub fn get(&self) -> &[u8]
-        requires { Fits self.now }
-        ensures { result.now ≡ text_of self.now }
+        ensures { result.now ≡ self.now.text }
     {
-        &self.bytes[0..self.used]
+        &self.bytes[..self.used]
     }
 
     // Lays bytes behind the text, unless they do not fit: then nothing changes.
     pub fn append(&mut self, bytes: &[u8]) -> Option<Span>
-        requires { Fits self.old }
-        ensures fits { Fits self.new }
-        ensures room { length self.new.bytes.now ≡ length self.old.bytes.now }
+        ensures room { lent self.new ≡ lent self.old }
         ensures after { Appended self.old bytes.now result self.new }
     {
-        let start = self.used;
-        let length = bytes.len();
-        if length > self.bytes.len() - start || start + length > u32::MAX as usize {
+        let start = u32::try_from(self.used).ok()?;
+        let length = u32::try_from(bytes.len()).ok()?;
+        let end = start.checked_add(length)? as usize;
+        if end > self.bytes.len() {
             return None;
         }
-        for i in 0..length {
-            self.bytes[start + i] = bytes[i];
-        }
-        self.used = start + length;
-        Some(Span {
-            start: start as u32,
-            length: length as u32,
-        })
+        self.bytes[self.used..end].copy_from_slice(bytes);
+        self.used = end;
+        Some(Span { start, length })
     }
 }
