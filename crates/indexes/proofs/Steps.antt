@@ -4,22 +4,32 @@ use Rattle.std.specs.Str.{bytes_eq}
 use Rattle.keys.specs.Senses.{bytes_digest}
 use Rattle.keys.specs.Spans.{span_bytes, span_end}
 use Rattle.keys.specs.declared.span.Span.{Span}
-use Rattle.slots.specs.declared.map.Entry.{Entry}
 use Rattle.slots.specs.declared.map.Stop.TheVariants.{Gap}
-use Rattle.slots.specs.Slots.{Told, Free, Added, Steady}
+use Rattle.slots.specs.Slots.{Entry, Kept, Told, Free, Added, Steady}
 use Rattle.slots.specs.Text.{Laid, LentText}
-use Rattle.indexes.specs.Known.{by_name, known, HasRoom, Interned}
+use Rattle.indexes.specs.Known.{by_name, known, HasRoom, Interned, Names}
 
-module _ {V : Type 0} (es : List (Entry Span V)) (before after : LentText) (name : List ℕ) (span : Span) (slot looked : ℕ)
-    (laid : Laid before name span after) (steady : Steady bytes_eq span_bytes bytes_digest span_end before.text name es)
-    (told : Told bytes_eq (span_bytes before.text) bytes_digest es name looked (Gap slot)) where
-  pub still_free : Free (span_bytes after.text) bytes_digest es name slot
-  still_free = rw laid.text (steady.free name slot ((looked, told.0), told.1))
+module _ {V : Type 0} where
+  -- a search for a name stopped at an empty slot, and then the name was laid behind the text
+  pub record Grown (t : Names V) (name : List ℕ) (slot : ℕ) (span : Span) (after : LentText) : Type 0 where
+    pub kept : Kept span_bytes bytes_digest span_end t.text.text t.slots
+    pub looked : ℕ
+    pub told : Told bytes_eq (span_bytes t.text.text) bytes_digest t.slots name looked (Gap slot)
+    pub laid : Laid t.text name span after
+    pub steady : Steady bytes_eq span_bytes bytes_digest span_end t.text.text name t.slots
 
-  pub added : (fs : List (Entry Span V)) (v : V) → Added bytes_eq (span_bytes after.text) bytes_digest es name v fs →
-      Interned bytes_eq (known (record { text = before; slots = es })) name v (HasRoom {V = V} (record { text = before; slots = es }) (length name)) (Some v) (known (record { text = after; slots = fs }))
-  added fs v new = (
-    λ q. new.holds q ∙ ap (λ (o : Option V). cond (bytes_eq name q) (Some v) o) (ap (λ (t : List ℕ). by_name t es q) laid.text ∙ steady.holds q),
-    λ _. (refl, (told.2, laid.room)),
-    λ w some. cc told.3,
-  )
+  module _ (t : Names V) (name : List ℕ) (slot : ℕ) (span : Span) (after : LentText) (grown : Grown t name slot span after) where
+    pub still_kept : Kept span_bytes bytes_digest span_end after.text t.slots
+    still_kept = rw grown.laid.text (record { sound = grown.steady.sound grown.kept.sound; within = grown.steady.within })
+
+    pub still_free : Free (span_bytes after.text) bytes_digest t.slots name slot
+    still_free = rw grown.laid.text (grown.steady.free name slot ((grown.looked, grown.told.0), grown.told.1))
+
+    pub interned :
+        (fs : List (Entry Span V)) (v : V) → Added bytes_eq (span_bytes after.text) bytes_digest t.slots name v fs →
+        Interned bytes_eq (known t) name v (HasRoom t (length name)) (Some v) (by_name after.text fs)
+    interned fs v added = (
+      λ q. added.holds q ∙ ap (λ (o : Option V). cond (bytes_eq name q) (Some v) o) (ap (λ (text : List ℕ). by_name text t.slots q) grown.laid.text ∙ grown.steady.holds q),
+      λ _. (refl, (grown.told.2, grown.laid.room)),
+      λ w some. cc grown.told.3,
+    )

@@ -6,8 +6,7 @@ use Rattle.std.specs.Str.{bytes_eq}
 use Rattle.keys.specs.Senses.{bytes_digest, oid_of, oid_digest}
 use Rattle.keys.specs.Spans.{span_bytes}
 use Rattle.keys.specs.declared.span.Span.{Span}
-use Rattle.slots.specs.declared.map.Entry.{Entry}
-use Rattle.slots.specs.Slots.{filled, held, looks}
+use Rattle.slots.specs.Slots.{Entry, filled, held, looks}
 use Rattle.slots.specs.Text.{LentText, Room}
 use Rattle.type_info.specs.declared.oid.Oid.{Oid}
 

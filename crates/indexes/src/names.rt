@@ -5,7 +5,7 @@ ghost use Rattle.indexes.specs.Known.{HasRoom, Interned, known, looks_by_name};
 
 use keys::kinds::Name;
 use keys::span::Span;
-use slots::map::{Entry, Map, Stop};
+use slots::map::{Entry, Lookup, Map, Stop};
 use slots::text::Text;
 use std::marker::Model;
 
@@ -16,17 +16,16 @@ pub struct NameIndex<'a, V> {
 }
 
 impl<'a, V> Model for NameIndex<'a, V> {
-    ghost use Rattle.std.specs.Prelude.{length};
     ghost use Rattle.indexes.specs.Known.{Names};
     ghost use Rattle.keys.specs.Senses.{bytes_digest};
     ghost use Rattle.keys.specs.Spans.{span_bytes, span_end};
-    ghost use Rattle.slots.specs.Slots.{Sound, Within};
+    ghost use Rattle.slots.specs.Slots.{Kept};
 
     ghost Value = { Names V };
 
     ghost view = { λ t. record { text = t.text; slots = t.map.slots.now } };
 
-    ghost invariant = { λ t. Sound (span_bytes t.text.text) bytes_digest t.map.slots.now × Within span_end (length t.text.text) t.map.slots.now };
+    ghost invariant = { λ t. Kept span_bytes bytes_digest span_end t.text.text t.map.slots.now };
 }
 
 impl<'a, V: Copy> NameIndex<'a, V> {
@@ -40,17 +39,25 @@ impl<'a, V: Copy> NameIndex<'a, V> {
         }
     }
 
+    // The map over the text.
+    fn lookup<'k>(&self) -> Lookup<'_, Name<'k>, V>
+        ensures slots { result.slots.now ≡ self.now.slots }
+        ensures text { result.text.now ≡ self.now.text.text }
+    {
+        self.map.over(self.text.get())
+    }
+
     pub fn find(&self, name: &[u8]) -> Option<V>
         ensures { result ≡ known self.now name.now }
     {
-        self.map.get(self.text.get(), &Name(name))
+        self.lookup().get(&Name(name))
     }
 
     // How many slots a search for the name looks at.
     pub fn looked(&self, name: &[u8]) -> usize
         ensures { result ≡ looks_by_name self.now name.now }
     {
-        self.map.seek(self.text.get(), &Name(name)).looked
+        self.lookup().seek(&Name(name)).looked
     }
 
     // The value under the name: the one that it has, or the one that is offered, where there is room to add it.
@@ -58,11 +65,12 @@ impl<'a, V: Copy> NameIndex<'a, V> {
         ensures { Interned bytes_eq (known self.old) name.now value (HasRoom self.old (length name.now)) result (known self.new) }
     {
         let key = Name(name);
-        match self.map.seek(self.text.get(), &key).stop {
+        let lookup = self.lookup();
+        match lookup.seek(&key).stop {
             Stop::Hit(_, present) => Some(present),
             Stop::Crowded => None,
             Stop::Gap(slot) => {
-                self.map.growth(self.text.get(), &key);
+                lookup.growth();
                 let span = self.text.append(name)?;
                 self.map.put(self.text.get(), slot, &key, span, value);
                 Some(value)

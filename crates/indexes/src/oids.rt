@@ -12,17 +12,16 @@ pub struct OidIndex<'a, V> {
 }
 
 impl<'a, V> Model for OidIndex<'a, V> {
-    ghost use Rattle.std.specs.Prelude.{List};
+    ghost use Rattle.std.specs.Prelude.{List, []};
     ghost use Rattle.keys.specs.Senses.{oid_digest, oid_of};
-    ghost use Rattle.slots.specs.declared.map.Entry.{Entry};
-    ghost use Rattle.slots.specs.Slots.{Sound};
+    ghost use Rattle.slots.specs.Slots.{Entry, Kept};
     ghost use Rattle.type_info.specs.declared.oid.Oid.{Oid};
 
     ghost Value = { List (Entry Oid V) };
 
     ghost view = { λ t. t.map.slots.now };
 
-    ghost invariant = { λ t. Sound oid_of oid_digest t.map.slots.now };
+    ghost invariant = { λ t. Kept (λ _. oid_of) oid_digest (λ _. 0) [] t.map.slots.now };
 }
 
 impl<'a, V: Copy> OidIndex<'a, V> {
@@ -38,14 +37,14 @@ impl<'a, V: Copy> OidIndex<'a, V> {
     pub fn find(&self, oid: Oid) -> Option<V>
         ensures { result ≡ by_oid self.now oid.0 }
     {
-        self.map.get(&[], &oid)
+        self.map.over(&[]).get(&oid)
     }
 
     // How many slots a search for the OID looks at.
     pub fn looked(&self, oid: Oid) -> usize
         ensures { result ≡ looks_by_oid self.now oid.0 }
     {
-        self.map.seek(&[], &oid).looked
+        self.map.over(&[]).seek(&oid).looked
     }
 
     // The value under the OID: the one that it has, or the one that is offered, where a slot is empty.

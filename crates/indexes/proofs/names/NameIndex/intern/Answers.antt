@@ -1,19 +1,32 @@
-use Rattle.std.proofs.Common.{length, Some, subst}
-use Rattle.std.specs.Str.{bytes_eq}
-use Rattle.indexes.specs.Known.{known, HasRoom, Interned, Names}
-use Rattle.indexes.proofs.Steps.{still_free, added}
+use Rattle.std.proofs.Common.{ap}
+use Rattle.indexes.specs.Known.{Names}
+use Rattle.indexes.proofs.Steps.{Grown, still_kept, still_free, interned}
+use Rattle.indexes.proofs.names.NameIndex.intern.Given as given
 use Rattle.indexes.proofs.names.NameIndex.intern.Goals as goal
+use Rattle.indexes.proofs.names.NameIndex.intern.Goals.{After-get}
+
+grown : (g : given.Over) (c : After-get g) → Grown c.args.self.now c.args.name.now c.in-Gap.slot c.in_ok-span-in-Gap.span c.append.new.self
+grown g c =
+    let was = c.lookup-lookup.ensures in
+    record {
+      kept = rw (was.text, was.slots) at c.lookup-lookup.result.kept;
+      looked = c.seek.result.looked;
+      told = rw (was.text, was.slots, c.in-Gap.is) at c.seek.ensures.told;
+      laid = rw (← c.self.view_is) c.in_ok-span-in-Gap.ensures.after;
+      steady = rw (was.text, was.slots) at (c.growth.ensures c.args.name.now);
+    }
+
+pub put-requires-clause-kept : goal.put-requires-clause-kept
+put-requires-clause-kept g c =
+    let slots = ap (λ (t : Names g.row.V.Denot). t.slots) c.self.view_is in
+    rw (c.get.ensures, slots) (still_kept _ _ _ _ _ (grown g (goal.at.put-requires-clause-kept g c).After-get))
 
 pub put-requires-clause-free : goal.put-requires-clause-free
 put-requires-clause-free g c =
-    let inside = c.self.inside in
-    rw c.get-in-Gap-2.ensures (still_free inside.map.slots.now inside.text c.append.new.self c.args.name.now c.in_ok-span-in-Gap.span c.in-Gap.slot c.seek.result.looked
-    c.in_ok-span-in-Gap.ensures.after (rw c.get-in-Gap.ensures at (c.growth.ensures c.args.name.now)) (rw (c.get.ensures, c.in-Gap.is) at c.seek.ensures.told))
+    let slots = ap (λ (t : Names g.row.V.Denot). t.slots) c.self.view_is in
+    rw (c.get.ensures, slots) (still_free _ _ _ _ _ (grown g (goal.at.put-requires-clause-free g c).After-get))
 
 pub returns-in_ok-span-in-Gap : goal.returns-in_ok-span-in-Gap
 returns-in_ok-span-in-Gap g c =
-    let inside = c.self.inside in
-    subst (λ (t : Names g.row.V.Denot). Interned bytes_eq (known t) c.args.name.now c.args.value (HasRoom t (length c.args.name.now)) (Some c.args.value) (known (record { text = c.append.new.self; slots = c.put.new.self.slots.now }))) c.self.view_is
-    (added inside.map.slots.now inside.text c.append.new.self c.args.name.now c.in_ok-span-in-Gap.span c.in-Gap.slot c.seek.result.looked
-    c.in_ok-span-in-Gap.ensures.after (rw c.get-in-Gap.ensures at (c.growth.ensures c.args.name.now)) (rw (c.get.ensures, c.in-Gap.is) at c.seek.ensures.told)
-    c.put.new.self.slots.now c.args.value (rw c.get-in-Gap-2.ensures at c.put.ensures.added))
+    let slots = ap (λ (t : Names g.row.V.Denot). t.slots) c.self.view_is in
+    interned _ _ _ _ _ (grown g (goal.at.returns-in_ok-span-in-Gap g c).After-get) c.put.new.self.slots.now c.args.value (rw (c.get.ensures, slots) at c.put.ensures.added)
