@@ -3,9 +3,9 @@ ghost use Rattle.std.specs.Prelude.{◌<◌};
 
 use indexes::names::NameIndex;
 use indexes::oids::OidIndex;
-use slots::map::Entry;
 use std::alloc::{AllocError, Global};
-use std::collections::{BTreeMap, btree_map};
+use std::collections::BTreeMap;
+use std::collections::btree_map::Entry;
 use type_info::oid::Oid;
 
 const TURNS: u32 = 20000;
@@ -37,8 +37,8 @@ impl Expected {
 
     fn intern(&mut self, number: u32, value: u32, size: usize) -> Result<Option<u32>, AllocError> {
         match self.values.entry(number)? {
-            btree_map::Entry::Occupied(present) => Ok(Some(*present.get())),
-            btree_map::Entry::Vacant(absent) => {
+            Entry::Occupied(present) => Ok(Some(*present.get())),
+            Entry::Vacant(absent) => {
                 let Some(room) = self.room.checked_sub(size) else {
                     return Ok(None);
                 };
@@ -125,7 +125,7 @@ fn count_agreeing<T: Numbered>(
 }
 
 pub fn oids(rt: &HostRuntime) -> anyhow::Result<()> {
-    let mut slots = [Entry::Empty; 61];
+    let mut slots = [None; 61];
     let mut table = OidIndex::new(&mut slots);
     let mut expected = Expected::new(rt.alloc(), 61);
     let agree = count_agreeing(&mut table, &mut expected, 97, 1)?;
@@ -136,7 +136,7 @@ pub fn oids(rt: &HostRuntime) -> anyhow::Result<()> {
 
 pub fn names(rt: &HostRuntime) -> anyhow::Result<()> {
     let mut bytes = [0u8; 150];
-    let mut slots = [Entry::Empty; 128];
+    let mut slots = [None; 128];
     let mut table = NameIndex::new(&mut bytes, &mut slots);
     let mut expected = Expected::new(rt.alloc(), 150);
     let agree = count_agreeing(&mut table, &mut expected, 104, 2)?;

@@ -2,7 +2,7 @@
 use indexes::names::NameIndex;
 use indexes::oids::OidIndex;
 use keys::kinds::Attribute;
-use slots::map::{Entry, Map};
+use slots::map::Map;
 use std::alloc::AllocError;
 use std::fs;
 use type_info::oid::{AttributeNumber, Oid};
@@ -31,7 +31,7 @@ fn print_averages<F: Fn(usize) -> Result<usize, AllocError>>(
 
 fn name_probes(rt: &HostRuntime, names: &[&str], size: usize) -> Result<usize, AllocError> {
     let mut bytes = vec![in rt.alloc(); 0u8; 65536]?;
-    let mut slots = vec![in rt.alloc(); Entry::Empty; size]?;
+    let mut slots = vec![in rt.alloc(); None; size]?;
     let mut table = NameIndex::new(&mut bytes[..], &mut slots[..]);
     for name in names {
         let _ = table.intern(name.as_bytes(), 0u8);
@@ -52,7 +52,7 @@ pub fn names(rt: &HostRuntime) -> anyhow::Result<()> {
 }
 
 fn oid_probes(rt: &HostRuntime, oids: &[Oid], size: usize) -> Result<usize, AllocError> {
-    let mut slots = vec![in rt.alloc(); Entry::Empty; size]?;
+    let mut slots = vec![in rt.alloc(); None; size]?;
     let mut table = OidIndex::new(&mut slots[..]);
     for oid in oids {
         let _ = table.intern(*oid, 0u8);
@@ -77,14 +77,15 @@ fn attribute_probes(
     attributes: &[Attribute],
     size: usize,
 ) -> Result<usize, AllocError> {
-    let mut slots = vec![in rt.alloc(); Entry::Empty; size]?;
+    let mut slots = vec![in rt.alloc(); None; size]?;
     let mut map = Map::empty::<Attribute>(&mut slots[..]);
     for attribute in attributes {
         let _ = map.insert(&[], attribute, *attribute, 0u8);
     }
+    let lookup = map.over(&[]);
     let looked = attributes
         .iter()
-        .map(|attribute| map.seek(&[], attribute).looked);
+        .map(move |attribute| lookup.seek(attribute).looked);
     Ok(looked.fold(0, usize::saturating_add))
 }
 
