@@ -34,6 +34,7 @@ module _ {V : Type 0} where
   abbrev pub looks_by_oid : List (Entry Oid V) → ℕ → ℕ
   looks_by_oid es = looks nat_eq oid_of oid_digest es
 
+  -- a slot is empty
   abbrev pub HasEmpty : {S : Type 0} → List (Entry S V) → Type 0
   HasEmpty es = filled es < length es
 

@@ -62,7 +62,8 @@ impl<'a, V: Copy> NameIndex<'a, V> {
 
     // The value under the name: the one that it has, or the one that is offered, where there is room to add it.
     pub fn intern(&mut self, name: &[u8], value: V) -> Option<V>
-        ensures { Interned bytes_eq (known self.old) name.now value (HasRoom self.old (length name.now)) result (known self.new) }
+        ensures { Interned bytes_eq (known self.old) name.now value
+            (HasRoom self.old (length name.now)) result (known self.new) }
     {
         let key = Name(name);
         let lookup = self.lookup();

@@ -49,7 +49,8 @@ impl<'a, V: Copy> OidIndex<'a, V> {
 
     // The value under the OID: the one that it has, or the one that is offered, where a slot is empty.
     pub fn intern(&mut self, oid: Oid, value: V) -> Option<V>
-        ensures { Interned nat_eq (by_oid self.old) oid.0 value (HasEmpty self.old) result (by_oid self.new) }
+        ensures { Interned nat_eq (by_oid self.old) oid.0 value
+            (HasEmpty self.old) result (by_oid self.new) }
     {
         match self.map.insert(&[], &oid, oid, value).stop {
             Stop::Hit(_, present) => Some(present),
