@@ -1,16 +1,21 @@
 -- A row of the code is within the limits. Assumes nothing.
-use Rattle.std.proofs.Common.{◌≡◌, ℕ, ◌≤◌, Bool, true, false, ◌&&◌, List, [], ◌∷◌, map, length, take, Some, None, Option, refl, arith, length-take, ltb-true}
+use Rattle.std.proofs.Common.{◌≡◌, ℕ, ◌≤◌, Bool, true, false, ◌&&◌, List, [], ◌∷◌, map, length, Some, None, Option, refl, arith, length-take, ltb-true}
 use Rattle.std.proofs.lemmas.List.{length-map}
 use Rattle.type_info.specs.declared.oid.Oid.{Oid}
 use Rattle.catalog.specs.declared.values.Attribute.{Attribute}
 use Rattle.catalog.specs.declared.row.Row.{Row}
 use Rattle.catalog.specs.declared.text.Text.{Text}
+use Rattle.catalog.specs.declared.few.Few.{Few}
+use Rattle.catalog.specs.Few.{standing}
 use Rattle.catalog.specs.Catalog.{RowFits, Each, Sized, Nonzero}
 use Rattle.catalog.specs.Limits.{nonzero, all_typed}
 use Rattle.catalog.specs.Meaning.{text_of, oid_told, attribute_meaning, row_meaning}
 
+few : {T : Type 0} {n : ℕ} (f : Few T n) → length (standing f) ≤ n
+few f = simp length-take (omega arith)
+
 pub text-sized : (n : ℕ) (t : Text n) → Sized n (text_of t)
-text-sized n t = (simp length-take (omega arith), simp length-take (omega arith))
+text-sized n t = (t.some, few t.bytes)
 
 linked : (o : Option Oid) → nonzero o ≡ true → Nonzero (oid_told o)
 linked None e = tt
@@ -31,9 +36,6 @@ attributes-sized (a ∷ xs) e =
     let h = both _ _ e in
     ((text-sized 63 a.name, ltb-true 0 a.oid.0 h.0), attributes-sized xs h.1)
 
-few : {X Y : Type 0} (f : X → Y) (n m : ℕ) (xs : List X) → n ≤ m → length (map f (take n xs)) ≤ m
-few f n m xs h = simp (length-map, length-take) (omega arith)
-
 pub row_fits : (r : Row) → RowFits (row_meaning r)
 row_fits r = record {
   pretty_fits = text-sized 128 r.pretty;
@@ -41,8 +43,8 @@ row_fits r = record {
   base_fits = linked r.typbasetype r.base;
   sub_fits = linked r.rngsubtype r.subtype;
   array_fits = linked r.typarray r.array;
-  labels_few = few text_of r.label_count 64 r.labels r.few.0;
-  labels_fit = labels-sized (take r.label_count r.labels);
-  attributes_few = few attribute_meaning r.attribute_count 64 r.attributes r.few.1;
-  attributes_fit = attributes-sized (take r.attribute_count r.attributes) r.typed;
+  labels_few = simp length-map (few r.labels);
+  labels_fit = labels-sized (standing r.labels);
+  attributes_few = simp length-map (few r.attributes);
+  attributes_fit = attributes-sized (standing r.attributes) r.typed;
 }

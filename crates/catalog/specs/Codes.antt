@@ -1,8 +1,9 @@
 -- The code bytes of a row, as PostgreSQL's page on pg_type lists them.
 -- Assumes nothing.
-use Rattle.std.specs.Prelude.{◌≡◌, ℕ, Bool, true, false, ◌||◌, List, [], ◌∷◌, Some, None, codes, Option, ◌==◌}
+use Rattle.std.specs.Prelude.{◌≡◌, ℕ, Bool, true, false, ◌||◌, List, [], ◌∷◌, Ok, Err, Result, codes, ◌==◌}
 use Rattle.catalog.specs.declared.codes.TypType.{TypType}
 use Rattle.catalog.specs.declared.codes.TypType.TheVariants as t
+use Rattle.catalog.specs.declared.codes.UnknownCode.{UnknownCode}
 use Rattle.catalog.specs.declared.codes.TypCategory.{TypCategory}
 use Rattle.catalog.specs.declared.codes.TypCategory.TheVariants as c
 
@@ -42,11 +43,13 @@ typcategory_byte c.User = 85
 typcategory_byte c.BitString = 86
 typcategory_byte c.Unknown = 88
 
--- a byte read: the answer stands for it, and nothing is answered only where the byte is not listed
-abbrev pub TypTypeRead : ℕ → Option TypType → Type 0
-TypTypeRead b None = listed b typtypes ≡ false
-TypTypeRead b (Some x) = (typtype_byte x ≡ b) × (listed b typtypes ≡ true)
+-- a byte read: the answer stands for it, and it is refused, as the code that is unknown, only where it is not listed
+abbrev pub CodeRead : {T : Type 0} → (T → ℕ) → List ℕ → ℕ → Result T UnknownCode → Type 0
+CodeRead byte_of all b (Ok x) = (byte_of x ≡ b) × (listed b all ≡ true)
+CodeRead byte_of all b (Err e) = (e.0 ≡ b) × (listed b all ≡ false)
 
-abbrev pub TypCategoryRead : ℕ → Option TypCategory → Type 0
-TypCategoryRead b None = listed b typcategories ≡ false
-TypCategoryRead b (Some x) = (typcategory_byte x ≡ b) × (listed b typcategories ≡ true)
+abbrev pub TypTypeRead : ℕ → Result TypType UnknownCode → Type 0
+TypTypeRead = CodeRead typtype_byte typtypes
+
+abbrev pub TypCategoryRead : ℕ → Result TypCategory UnknownCode → Type 0
+TypCategoryRead = CodeRead typcategory_byte typcategories

@@ -1,4 +1,5 @@
 pub mod Codes
+pub mod Few
 pub mod Faults
 pub mod Shape
 pub mod Catalog

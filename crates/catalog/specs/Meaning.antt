@@ -1,14 +1,15 @@
 -- What a row of the code means. Assumes nothing.
-use Rattle.std.specs.Prelude.{ℕ, List, map, take, Some, None, Option}
+use Rattle.std.specs.Prelude.{ℕ, List, map, Some, None, Option}
 use Rattle.type_info.specs.declared.oid.Oid.{Oid}
 use Rattle.catalog.specs.declared.values.Attribute.{Attribute}
 use Rattle.catalog.specs.declared.values.Column.{Column}
 use Rattle.catalog.specs.declared.row.Row.{Row}
 use Rattle.catalog.specs.declared.text.Text.{Text}
+use Rattle.catalog.specs.Few.{standing}
 use Rattle.catalog.specs.Catalog.{CatalogRow, CatalogAttribute, CatalogColumn}
 
 abbrev pub text_of : {n : ℕ} → Text n → List ℕ
-text_of t = take t.used t.bytes
+text_of t = standing t.bytes
 
 abbrev pub oid_told : Option Oid → Option ℕ
 oid_told None = None
@@ -26,8 +27,8 @@ row_meaning r = record {
   typbasetype = oid_told r.typbasetype;
   rngsubtype = oid_told r.rngsubtype;
   typarray = oid_told r.typarray;
-  labels = map text_of (take r.label_count r.labels);
-  attributes = map attribute_meaning (take r.attribute_count r.attributes);
+  labels = map text_of (standing r.labels);
+  attributes = map attribute_meaning (standing r.attributes);
 }
 
 abbrev pub row_told : Option Row → Option CatalogRow

@@ -1,6 +1,9 @@
 // The two code bytes of a row of pg_type.
 ghost use Rattle.catalog.specs.Codes.{TypCategoryRead, TypTypeRead};
 
+use std::error::Error;
+use std::fmt;
+
 #[derive(Clone, Copy, PartialEq, Eq, Debug)]
 pub enum TypType {
     Base,
@@ -30,39 +33,59 @@ pub enum TypCategory {
     Unknown,
 }
 
-pub fn read_typtype(byte: u8) -> Option<TypType>
-    ensures { TypTypeRead byte result }
-{
-    match byte as char {
-        'b' => Some(TypType::Base),
-        'c' => Some(TypType::Composite),
-        'd' => Some(TypType::Domain),
-        'e' => Some(TypType::Enum),
-        'p' => Some(TypType::Pseudo),
-        'r' => Some(TypType::Range),
-        _ => None,
+// A byte that is no code of its kind.
+#[derive(Clone, Copy, PartialEq, Eq, Debug)]
+pub struct UnknownCode(pub u8);
+
+impl TryFrom<u8> for TypType {
+    type Error = UnknownCode;
+
+    ghost try_from_gives = { TypTypeRead };
+
+    fn try_from(byte: u8) -> Result<TypType, UnknownCode> {
+        match byte {
+            b'b' => Ok(TypType::Base),
+            b'c' => Ok(TypType::Composite),
+            b'd' => Ok(TypType::Domain),
+            b'e' => Ok(TypType::Enum),
+            b'p' => Ok(TypType::Pseudo),
+            b'r' => Ok(TypType::Range),
+            _ => Err(UnknownCode(byte)),
+        }
     }
 }
 
-pub fn read_typcategory(byte: u8) -> Option<TypCategory>
-    ensures { TypCategoryRead byte result }
-{
-    match byte as char {
-        'A' => Some(TypCategory::Array),
-        'B' => Some(TypCategory::Boolean),
-        'C' => Some(TypCategory::Composite),
-        'D' => Some(TypCategory::DateTime),
-        'E' => Some(TypCategory::Enum),
-        'G' => Some(TypCategory::Geometric),
-        'I' => Some(TypCategory::Network),
-        'N' => Some(TypCategory::Numeric),
-        'P' => Some(TypCategory::Pseudo),
-        'R' => Some(TypCategory::Range),
-        'S' => Some(TypCategory::String),
-        'T' => Some(TypCategory::Timespan),
-        'U' => Some(TypCategory::User),
-        'V' => Some(TypCategory::BitString),
-        'X' => Some(TypCategory::Unknown),
-        _ => None,
+impl TryFrom<u8> for TypCategory {
+    type Error = UnknownCode;
+
+    ghost try_from_gives = { TypCategoryRead };
+
+    fn try_from(byte: u8) -> Result<TypCategory, UnknownCode> {
+        match byte {
+            b'A' => Ok(TypCategory::Array),
+            b'B' => Ok(TypCategory::Boolean),
+            b'C' => Ok(TypCategory::Composite),
+            b'D' => Ok(TypCategory::DateTime),
+            b'E' => Ok(TypCategory::Enum),
+            b'G' => Ok(TypCategory::Geometric),
+            b'I' => Ok(TypCategory::Network),
+            b'N' => Ok(TypCategory::Numeric),
+            b'P' => Ok(TypCategory::Pseudo),
+            b'R' => Ok(TypCategory::Range),
+            b'S' => Ok(TypCategory::String),
+            b'T' => Ok(TypCategory::Timespan),
+            b'U' => Ok(TypCategory::User),
+            b'V' => Ok(TypCategory::BitString),
+            b'X' => Ok(TypCategory::Unknown),
+            _ => Err(UnknownCode(byte)),
+        }
     }
 }
+
+impl fmt::Display for UnknownCode {
+    fn fmt<W: fmt::Write>(&self, f: &mut fmt::Formatter<W>) -> fmt::Result {
+        write!(f, "unknown code {}", self.0)
+    }
+}
+
+impl Error for UnknownCode {}

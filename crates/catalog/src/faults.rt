@@ -1,6 +1,6 @@
 // What a catalog refuses, and what each refusal tells.
 ghost use Rattle.std.specs.Prelude.{◌≡◌};
-ghost use Rattle.catalog.specs.Faults.{addition_told, fault_told, position_of};
+ghost use Rattle.catalog.specs.Faults.{addition_told, fault_told};
 
 use type_info::oid::Oid;
 
@@ -56,7 +56,7 @@ impl CatalogFault {
             },
             CatalogFault::BreaksLimit(of) => addition(11, of.0),
             CatalogFault::Contradicts(of) => addition(12, of.0),
-            CatalogFault::Full(table) => addition(13, position(table)),
+            CatalogFault::Full(table) => addition(13, table as u32),
         }
     }
 }
@@ -70,16 +70,5 @@ fn addition(number: u8, place: u32) -> Told
         place,
         layer: Layer::Catalog,
         rounds: 0,
-    }
-}
-
-fn position(table: HeldIn) -> u32
-    ensures { result ≡ position_of table }
-{
-    match table {
-        HeldIn::Rows => 0,
-        HeldIn::Names => 1,
-        HeldIn::Parts => 2,
-        HeldIn::Columns => 3,
     }
 }

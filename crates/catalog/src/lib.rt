@@ -3,6 +3,7 @@
 
 pub mod codes;
 pub mod faults;
+pub mod few;
 pub mod questions;
 pub mod row;
 pub mod shape;

@@ -5,11 +5,21 @@ ghost use Rattle.catalog.specs.Meaning.{column_told, oid_told, row_meaning, row_
 
 use crate::row::Row;
 use crate::values::Column;
+use std::error::Error;
+use std::fmt;
 use type_info::oid::{AttributeNumber, Oid};
 
 // The allowance is 0, so no round opens.
 #[derive(Clone, Copy, PartialEq, Eq, Debug)]
 pub struct NoAllowance;
+
+impl fmt::Display for NoAllowance {
+    fn fmt<W: fmt::Write>(&self, f: &mut fmt::Formatter<W>) -> fmt::Result {
+        f.write_str("no round is left in the allowance")
+    }
+}
+
+impl Error for NoAllowance {}
 
 pub trait TypeCatalog {
     // An open round. It can only be given back to the catalog that opened it.

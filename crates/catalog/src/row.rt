@@ -1,12 +1,14 @@
 // A row of pg_type with what belongs to it of pg_range, pg_enum and pg_attribute. The OID that it is the row of is not
 // part of it.
-ghost use Rattle.std.specs.Prelude.{◌≡◌, ◌≤◌, true, take};
+ghost use Rattle.std.specs.Prelude.{◌≡◌, true};
+ghost use Rattle.catalog.specs.Few.{standing};
 ghost use Rattle.catalog.specs.Limits.{all_typed, nonzero};
 
+use crate::few::Few;
 use crate::values::{Attribute, LongName, ShortName};
 use type_info::oid::Oid;
 
-#[derive(Clone, Copy)]
+#[derive(Clone, Copy, PartialEq, Eq)]
 pub struct Row {
     pub pretty: LongName,
     pub typtype: u8,
@@ -15,14 +17,11 @@ pub struct Row {
     pub typbasetype: Option<Oid>,
     pub rngsubtype: Option<Oid>,
     pub typarray: Option<Oid>,
-    pub labels: [ShortName; 64],
-    pub label_count: usize,
-    pub attributes: [Attribute; 64],
-    pub attribute_count: usize,
+    pub labels: Few<ShortName, 64>,
+    pub attributes: Few<Attribute, 64>,
     ghost element: { nonzero typelem ≡ true },
     ghost base: { nonzero typbasetype ≡ true },
     ghost subtype: { nonzero rngsubtype ≡ true },
     ghost array: { nonzero typarray ≡ true },
-    ghost few: { (label_count ≤ 64) × (attribute_count ≤ 64) },
-    ghost typed: { all_typed (take attribute_count attributes) ≡ true },
+    ghost typed: { all_typed (standing attributes) ≡ true },
 }

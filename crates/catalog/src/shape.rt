@@ -2,7 +2,9 @@
 ghost use Rattle.std.specs.Prelude.{◌≡◌};
 ghost use Rattle.catalog.specs.Shape.{bytes_shape, codes_shape, links_of, shape_read};
 
-use crate::codes::{TypCategory, TypType, read_typcategory, read_typtype};
+use crate::codes::{TypCategory, TypType, UnknownCode};
+use std::error::Error;
+use std::fmt;
 use type_info::oid::Oid;
 
 // The OIDs of a row that a shape may need.
@@ -28,20 +30,29 @@ pub enum Shape {
 #[derive(Clone, Copy, PartialEq, Eq, Debug)]
 pub struct Malformed;
 
+impl From<UnknownCode> for Malformed {
+    fn from(_code: UnknownCode) -> Malformed {
+        Malformed
+    }
+}
+
+impl fmt::Display for Malformed {
+    fn fmt<W: fmt::Write>(&self, f: &mut fmt::Formatter<W>) -> fmt::Result {
+        f.write_str("the row is malformed")
+    }
+}
+
+impl Error for Malformed {}
+
 // The first line that fits decides.
 pub fn decide(typtype: TypType, category: TypCategory, links: Links) -> Result<Shape, Malformed>
     ensures { shape_read result ≡ codes_shape typtype category (links_of links) }
 {
     match (typtype, category) {
-        (TypType::Domain, _) if let Some(base) = links.typbasetype => Ok(Shape::Domain(base)),
-        (TypType::Domain, _) => Err(Malformed),
-        (TypType::Base, TypCategory::Array) if let Some(element) = links.typelem => Ok(Shape::Array(
-            element,
-        )),
-        (TypType::Base, TypCategory::Array) => Err(Malformed),
+        (TypType::Domain, _) => links.typbasetype.map(Shape::Domain).ok_or(Malformed),
+        (TypType::Base, TypCategory::Array) => links.typelem.map(Shape::Array).ok_or(Malformed),
         (TypType::Pseudo, _) => Ok(Shape::Pseudo),
-        (TypType::Range, _) if let Some(subtype) = links.rngsubtype => Ok(Shape::Range(subtype)),
-        (TypType::Range, _) => Err(Malformed),
+        (TypType::Range, _) => links.rngsubtype.map(Shape::Range).ok_or(Malformed),
         (TypType::Enum, _) => Ok(Shape::Enum),
         (TypType::Composite, _) => Ok(Shape::Composite),
         (TypType::Base, _) => Ok(Shape::Simple),
@@ -52,7 +63,9 @@ pub fn decide(typtype: TypType, category: TypCategory, links: Links) -> Result<S
 pub fn shape_of(typtype: u8, category: u8, links: Links) -> Result<Shape, Malformed>
     ensures { shape_read result ≡ bytes_shape typtype category (links_of links) }
 {
-    let typtype = read_typtype(typtype).ok_or(Malformed)?;
-    let category = read_typcategory(category).ok_or(Malformed)?;
-    decide(typtype, category, links)
+    decide(
+        TypType::try_from(typtype)?,
+        TypCategory::try_from(category)?,
+        links,
+    )
 }

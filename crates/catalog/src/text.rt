@@ -1,33 +1,33 @@
 // A text of 1 to N bytes, held in place.
-ghost use Rattle.std.specs.Prelude.{◌≡◌, ◌≤◌, length, take, MatchOption};
+ghost use Rattle.std.specs.Prelude.{◌≤◌, length};
+ghost use Rattle.catalog.specs.Few.{standing};
 
-#[derive(Clone, Copy)]
+use crate::few::Few;
+
+#[derive(Clone, Copy, PartialEq, Eq)]
 pub struct Text<const N: usize> {
-    bytes: [u8; N],
-    used: usize,
-    ghost ok: { (1 ≤ used) × (used ≤ N) × (length bytes ≡ N) },
+    bytes: Few<u8, N>,
+    ghost some: { 1 ≤ length (standing bytes) },
 }
 
 impl<const N: usize> Text<N> {
+    ghost use Rattle.std.specs.Prelude.{◌≡◌, MatchOption};
+    ghost use Rattle.catalog.specs.Meaning.{text_of};
+
     // Nothing where the bytes are none or more than N.
     pub fn new(text: &[u8]) -> Option<Text<N>>
-        ensures { MatchOption result ((1 ≤ length text.now → length text.now ≤ N → ⊥)) (λ t. take t.used t.bytes ≡ text.now) }
+        ensures { MatchOption result ((1 ≤ length text.now → length text.now ≤ N → ⊥)) (λ t. text_of t ≡ text.now) }
     {
-        let used = text.len();
-        if used < 1 || used > N {
+        if text.is_empty() {
             return None;
         }
-        let mut bytes = [0u8; N];
-        for i in 0..used {
-            bytes[i] = text[i];
-        }
-        Some(Text { bytes, used })
+        let bytes = Few::from_slice(text, 0)?;
+        Some(Text { bytes })
     }
 
     pub fn get(&self) -> &[u8]
-        ensures { result.now ≡ take self.now.used self.now.bytes }
+        ensures { result.now ≡ text_of self.now }
     {
-        let all = &self.bytes[..];
-        &all[0..self.used]
+        self.bytes.as_slice()
     }
 }

@@ -8,13 +8,13 @@ pub type LongName = Text<128>;
 // A label, or the name of an attribute or a column.
 pub type ShortName = Text<63>;
 
-#[derive(Clone, Copy)]
+#[derive(Clone, Copy, PartialEq, Eq)]
 pub struct Attribute {
     pub name: ShortName,
     pub oid: Oid,
 }
 
-#[derive(Clone, Copy)]
+#[derive(Clone, Copy, PartialEq, Eq)]
 pub struct Column {
     pub table: LongName,
     pub name: ShortName,
