@@ -49,8 +49,5 @@ pub fn rngsubtype(kind: BuiltInKind) -> Option<Oid>
 pub fn typarray(oid: Oid) -> Option<Oid>
     ensures { oid_told result ≡ option_map (λ e. e.oid) (array_of oid.0) }
 {
-    match array_of(oid) {
-        Some(array) => Some(array.oid()),
-        None => None,
-    }
+    array_of(oid).map(|array| array.oid())
 }

@@ -5,6 +5,7 @@ ghost use Rattle.shelf.specs.Laws.{shelf-laws};
 ghost use Rattle.shelf.specs.Rows.{shelf_of};
 
 use crate::rows::{rngsubtype, typarray, typcategory, typelem, typtype};
+use catalog::few::Few;
 use catalog::questions::{ColumnCatalog, NoAllowance, TypeCatalog};
 use catalog::row::Row;
 use catalog::values::{Attribute, Column, LongName, ShortName};
@@ -61,31 +62,28 @@ impl TypeCatalog for Shelf {
     fn row(&self, _round: &ShelfRound, oid: Oid) -> Option<Row> {
         let entry = by_oid(oid)?;
         let pretty = LongName::new(entry.name())?;
+        let kind = entry.kind();
         let unused = ShortName::new(b"-")?;
-        let attribute = Attribute {
+        let labels = Few::new(unused);
+        let attributes = Few::new(Attribute {
             name: unused,
             oid: Oid(1),
-        };
+        });
         Some(Row {
             pretty,
-            typtype: typtype(entry.kind()),
-            typcategory: typcategory(entry.kind()),
-            typelem: typelem(entry.kind()),
+            typtype: typtype(kind),
+            typcategory: typcategory(kind),
+            typelem: typelem(kind),
             typbasetype: None,
-            rngsubtype: rngsubtype(entry.kind()),
+            rngsubtype: rngsubtype(kind),
             typarray: typarray(oid),
-            labels: [unused; 64],
-            label_count: 0,
-            attributes: [attribute; 64],
-            attribute_count: 0,
+            labels,
+            attributes,
         })
     }
 
     fn oid_of(&self, _round: &ShelfRound, name: &[u8]) -> Option<Oid> {
-        match by_name(name) {
-            Some(entry) => Some(entry.oid()),
-            None => None,
-        }
+        by_name(name).map(|entry| entry.oid())
     }
 
     fn close(&mut self, round: ShelfRound) {

@@ -1,9 +1,9 @@
-use Rattle.std.proofs.Common.{◌≡◌, ℕ, ◌≤◌, true, List, [], length, Some, None, Option, sym, refl, ap, ◌∙◌, subst, arith}
+use Rattle.std.proofs.Common.{◌≡◌, ℕ, ◌≤◌, true, List, [], length, map, Some, None, Option, sym, refl, ap, ◌∙◌, subst}
 use Rattle.std.specs.Option.{option_map}
 use Rattle.std.proofs.lemmas.Bool.{lt-ltb}
-use Rattle.catalog.specs.Catalog.{CatalogRow, Nonzero}
-use Rattle.catalog.specs.Limits.{nonzero}
-use Rattle.catalog.specs.Meaning.{oid_told}
+use Rattle.catalog.specs.Catalog.{CatalogAttribute, CatalogRow, Nonzero}
+use Rattle.catalog.specs.Limits.{all_typed, nonzero}
+use Rattle.catalog.specs.Meaning.{attribute_meaning, oid_told, text_of}
 use Rattle.type_info.specs.declared.oid.Oid.{Oid}
 use Rattle.type_info.specs.Meaning.{entry_of}
 use Rattle.type_info.specs.Table.{Entry, by_oid, array_of}
@@ -18,11 +18,11 @@ tested None h = refl
 tested (Some o) h = lt-ltb 0 o.0 h
 
 row_is :
-    (e : Entry) (name : List ℕ) (typtype category : ℕ) (element subtype array : Option ℕ) → name ≡ e.name → typtype ≡ typtype_byte e.kind →
-    category ≡ category_byte e.kind → element ≡ element_oid e.kind → subtype ≡ subtype_oid e.kind → array ≡ option_map (λ (a : Entry). a.oid) (array_of e.oid) →
-    ◌≡◌ {A = CatalogRow} (record { pretty = name; typtype = typtype; typcategory = category; typelem = element; typbasetype = None; rngsubtype = subtype; typarray = array; labels = []; attributes = [] }) (shelf_row e)
-row_is e name typtype category element subtype array p q r s t u =
-    λ i. record { pretty = p i; typtype = q i; typcategory = r i; typelem = s i; typbasetype = None; rngsubtype = t i; typarray = u i; labels = []; attributes = [] }
+    (e : Entry) (name : List ℕ) (typtype category : ℕ) (element subtype array : Option ℕ) (labels : List (List ℕ)) (attributes : List CatalogAttribute) → name ≡ e.name → typtype ≡ typtype_byte e.kind →
+    category ≡ category_byte e.kind → element ≡ element_oid e.kind → subtype ≡ subtype_oid e.kind → array ≡ option_map (λ (a : Entry). a.oid) (array_of e.oid) → labels ≡ [] → attributes ≡ [] →
+    ◌≡◌ {A = CatalogRow} (record { pretty = name; typtype = typtype; typcategory = category; typelem = element; typbasetype = None; rngsubtype = subtype; typarray = array; labels = labels; attributes = attributes }) (shelf_row e)
+row_is e name typtype category element subtype array labels attributes p q r s t u v w =
+    λ i. record { pretty = p i; typtype = q i; typcategory = r i; typelem = s i; typbasetype = None; rngsubtype = t i; typarray = u i; labels = v i; attributes = w i }
 
 -- the entry that was found
 found-entry : (c : In_ok-entry) → by_oid c.args.oid.0 ≡ Some (entry_of c.in_ok-entry.entry)
@@ -39,12 +39,11 @@ invariant_of-result c =
     let a = (goal.at.invariant_of-result c).In_ok-entry in
     let b = bounds c.args.oid.0 (entry_of c.in_ok-entry.entry) (found-entry a) in
     record {
-      element = tested c.typelem.result (subst Nonzero (sym (c.typelem.ensures ∙ ap element_oid c.kind-3.ensures)) b.element);
+      element = tested c.typelem.result (subst Nonzero (sym (c.typelem.ensures ∙ ap element_oid c.kind-kind.ensures)) b.element);
       base = refl;
-      subtype = tested c.rngsubtype.result (subst Nonzero (sym (c.rngsubtype.ensures ∙ ap subtype_oid c.kind-4.ensures)) b.subtype);
+      subtype = tested c.rngsubtype.result (subst Nonzero (sym (c.rngsubtype.ensures ∙ ap subtype_oid c.kind-kind.ensures)) b.subtype);
       array = tested c.typarray.result (subst Nonzero (sym c.typarray.ensures) (array-nonzero c.args.oid.0));
-      few = (omega arith, omega arith);
-      typed = refl;
+      typed = ap all_typed c.new-attributes.ensures;
     }
 
 pub returns : goal.returns
@@ -54,11 +53,13 @@ returns c =
     let e : Entry = entry_of c.in_ok-entry.entry in
     let found = found-entry a in
     let same : e.oid ≡ o = (laws.name_finds_again o e found).0 in
-    ap Some (row_is e _ _ _ _ _ _
+    ap Some (row_is e _ _ _ _ _ _ _ _
     (c.in_ok-pretty.ensures ∙ c.name.ensures)
-    (c.typtype.ensures ∙ ap typtype_byte c.kind.ensures)
-    (c.typcategory.ensures ∙ ap category_byte c.kind-2.ensures)
-    (c.typelem.ensures ∙ ap element_oid c.kind-3.ensures)
-    (c.rngsubtype.ensures ∙ ap subtype_oid c.kind-4.ensures)
-    (c.typarray.ensures ∙ ap (λ (k : ℕ). option_map (λ (x : Entry). x.oid) (array_of k)) (sym same)))
+    (c.typtype.ensures ∙ ap typtype_byte c.kind-kind.ensures)
+    (c.typcategory.ensures ∙ ap category_byte c.kind-kind.ensures)
+    (c.typelem.ensures ∙ ap element_oid c.kind-kind.ensures)
+    (c.rngsubtype.ensures ∙ ap subtype_oid c.kind-kind.ensures)
+    (c.typarray.ensures ∙ ap (λ (k : ℕ). option_map (λ (x : Entry). x.oid) (array_of k)) (sym same))
+    (ap (map text_of) c.new-labels.ensures)
+    (ap (map attribute_meaning) c.new-attributes.ensures))
     ∙ ap (option_map shelf_row) (sym found)
