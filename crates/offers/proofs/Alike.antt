@@ -1,43 +1,47 @@
--- A loop that compares one by one tells whether all are the same. Assumes nothing.
-use Rattle.std.proofs.Common.{◌≡◌, ℕ, suc, ◌+◌, ◌<◌, ◌≤◌, Bool, true, false, ◌&&◌, List, [], ◌∷◌, map, length, get_or, drop, sym, refl, ap, ◌∙◌}
-use Rattle.std.proofs.lemmas.List.{drop_more, drop_all}
-use Rattle.std.proofs.lemmas.Bool.{and_right}
-use Rattle.offers.specs.Same.{same_each}
+-- The derived comparison of rows is the test on what they tell. Assumes nothing.
+use Rattle.std.proofs.Common.{◌≡◌, Bool, true, false, ◌&&◌, List, [], ◌∷◌, map, Some, None, Option, refl, ap₂, ◌∙◌}
+use Rattle.std.specs.Prelude.{◌==◌}
+use Rattle.std.specs.Cmp.Lexicographic.{pointwise}
+use Rattle.std.specs.Option.{option_eq}
+use Rattle.std.specs.Str.{bytes_eq}
+use Rattle.type_info.specs.declared.oid.Oid.{Oid}
+use Rattle.catalog.specs.declared.row.Row.{Row}
+use Rattle.catalog.specs.contracts.row.RowPartialEq.TheImpl.{ghosts}
+use Rattle.catalog.specs.Few.{standing}
+use Rattle.catalog.specs.Meaning.{attribute_meaning, oid_told, row_meaning, text_of}
+use Rattle.offers.specs.Same.{same_attribute, same_each, same_link, same_row}
 
--- not as many
-pub unlike : {A X : Type 0} (same : A → A → Bool) (f : X → A) (xs ys : List X) → (length xs ≡ length ys → ⊥) → false ≡ same_each same (map f xs) (map f ys)
-unlike same f [] [] n = absurd (n refl)
-unlike same f [] (y ∷ ys) n = refl
-unlike same f (x ∷ xs) [] n = refl
-unlike same f (x ∷ xs) (y ∷ ys) n = sym (and_right (same (f x) (f y)) _ (sym (unlike same f xs ys (λ e. n (ap suc e)))))
+link-alike : (like : Oid → Oid → Bool) → ((a b : Oid) → like a b ≡ (a.0 == b.0)) → (a b : Option Oid) → option_eq like a b ≡ same_link (oid_told a) (oid_told b)
+link-alike like h None None = refl
+link-alike like h None (Some b) = refl
+link-alike like h (Some a) None = refl
+link-alike like h (Some a) (Some b) = h a b
 
--- what is left from i on, with the two at i apart
-step :
-    {A X : Type 0} (same : A → A → Bool) (f : X → A) (xs ys : List X) (i : ℕ) (x y : X) → i < length xs → i < length ys → x ≡ get_or xs i x → y ≡ get_or ys i y →
-    same_each same (map f (drop i xs)) (map f (drop i ys)) ≡ (same (f x) (f y) && same_each same (map f (drop (i + 1) xs)) (map f (drop (i + 1) ys)))
-step same f xs ys i x y l m p q =
-    ap (λ zs. same_each same (map f zs) (map f (drop i ys))) (drop_more xs i x l ∙ ap (λ z. z ∷ drop (i + 1) xs) (sym p))
-    ∙ ap (λ zs. same_each same (map f (x ∷ drop (i + 1) xs)) (map f zs)) (drop_more ys i y m ∙ ap (λ z. z ∷ drop (i + 1) ys) (sym q))
+each-alike : {X A : Type 0} (like : X → X → Bool) (same : A → A → Bool) (mean : X → A) → ((x y : X) → like x y ≡ same (mean x) (mean y)) → (xs ys : List X) → pointwise like xs ys ≡ same_each same (map mean xs) (map mean ys)
+each-alike like same mean h [] [] = refl
+each-alike like same mean h [] (y ∷ ys) = refl
+each-alike like same mean h (x ∷ xs) [] = refl
+each-alike like same mean h (x ∷ xs) (y ∷ ys) = ap₂ ◌&&◌ (h x y) (each-alike like same mean h xs ys)
 
--- the two at i are the same
-pub one_alike :
-    {A X : Type 0} (same : A → A → Bool) (f : X → A) (xs ys : List X) (i : ℕ) (x y : X) → i < length xs → i < length ys → x ≡ get_or xs i x → y ≡ get_or ys i y →
-    same_each same (map f xs) (map f ys) ≡ same_each same (map f (drop i xs)) (map f (drop i ys)) → true ≡ same (f x) (f y) →
-    same_each same (map f xs) (map f ys) ≡ same_each same (map f (drop (i + 1) xs)) (map f (drop (i + 1) ys))
-one_alike same f xs ys i x y l m p q inv h =
-    inv ∙ step same f xs ys i x y l m p q ∙ ap (λ b. b && same_each same (map f (drop (i + 1) xs)) (map f (drop (i + 1) ys))) (sym h)
+grouped : (p t c u v w x y z : Bool) → (p && (t && (c && (u && (v && (w && (x && (y && z)))))))) ≡ ((p && (t && c)) && ((u && (v && (w && x))) && (y && z)))
+grouped false t c u v w x y z = refl
+grouped true false c u v w x y z = refl
+grouped true true false u v w x y z = refl
+grouped true true true false v w x y z = refl
+grouped true true true true false w x y z = refl
+grouped true true true true true false x y z = refl
+grouped true true true true true true false y z = refl
+grouped true true true true true true true y z = refl
 
--- the two at i differ
-pub one-unlike :
-    {A X : Type 0} (same : A → A → Bool) (f : X → A) (xs ys : List X) (i : ℕ) (x y : X) → i < length xs → i < length ys → x ≡ get_or xs i x → y ≡ get_or ys i y →
-    same_each same (map f xs) (map f ys) ≡ same_each same (map f (drop i xs)) (map f (drop i ys)) → false ≡ same (f x) (f y) →
-    false ≡ same_each same (map f xs) (map f ys)
-one-unlike same f xs ys i x y l m p q inv h =
-    sym (inv ∙ step same f xs ys i x y l m p q ∙ ap (λ b. b && same_each same (map f (drop (i + 1) xs)) (map f (drop (i + 1) ys))) (sym h))
-
--- none differ
-pub all_alike :
-    {A X : Type 0} (same : A → A → Bool) (f : X → A) (xs ys : List X) (i : ℕ) → length xs ≤ i → length ys ≤ i →
-    same_each same (map f xs) (map f ys) ≡ same_each same (map f (drop i xs)) (map f (drop i ys)) → true ≡ same_each same (map f xs) (map f ys)
-all_alike same f xs ys i l m inv =
-    sym (inv ∙ ap (λ zs. same_each same (map f zs) (map f (drop i ys))) (drop_all i xs l) ∙ ap (λ zs. same_each same [] (map f zs)) (drop_all i ys m))
+pub row_alike : (a b : Row) → ghosts.eq a b ≡ same_row (row_meaning a) (row_meaning b)
+row_alike a b =
+    let m = row_meaning a in
+    let n = row_meaning b in
+    (λ i. bytes_eq m.pretty n.pretty && (m.typtype == n.typtype && (m.typcategory == n.typcategory
+    && (link-alike _ (λ x y. refl) a.typelem b.typelem i && (link-alike _ (λ x y. refl) a.typbasetype b.typbasetype i
+    && (link-alike _ (λ x y. refl) a.rngsubtype b.rngsubtype i && (link-alike _ (λ x y. refl) a.typarray b.typarray i
+    && (each-alike _ bytes_eq text_of (λ x y. refl) (standing a.labels) (standing b.labels) i
+    && each-alike _ same_attribute attribute_meaning (λ x y. refl) (standing a.attributes) (standing b.attributes) i))))))))
+    ∙ grouped (bytes_eq m.pretty n.pretty) (m.typtype == n.typtype) (m.typcategory == n.typcategory)
+    (same_link m.typelem n.typelem) (same_link m.typbasetype n.typbasetype) (same_link m.rngsubtype n.rngsubtype) (same_link m.typarray n.typarray)
+    (same_each bytes_eq m.labels n.labels) (same_each same_attribute m.attributes n.attributes)

@@ -1,62 +1,59 @@
--- A loop that reads one after another reads them all, or stops at one that is read as nothing. Assumes nothing.
-use Rattle.std.proofs.Common.{◌≡◌, ℕ, zero, suc, ◌+◌, ◌<◌, ◌≤◌, Bool, true, false, List, [], ◌∷◌, ◌++◌, map, length, get_or, take, set, Some, None, Option, sym, refl, ap, ◌∙◌, arith, take_all}
-use Rattle.std.proofs.lemmas.List.{take_more, take_more_set, map_push}
-use Rattle.std.proofs.lemmas.Bool.{le-leb}
+-- What is read one by one is what the definitions say of all. Assumes nothing.
+use Rattle.std.proofs.Common.{◌≡◌, ℕ, zero, suc, ◌+◌, ◌<◌, ◌≤◌, Bool, true, false, leb, List, [], ◌∷◌, ◌++◌, map, length, get_or, take, Some, None, Option, sym, refl, ap, ap₂, ◌∙◌, subst, inl, inr, ⊎_elim, arith}
+use Rattle.std.specs.Option.{option_map}
+use Rattle.std.proofs.lemmas.Bool.{cases_lt}
+use Rattle.std.proofs.lemmas.List.{take_more}
 use Rattle.offers.specs.Offered.{consed, every, few}
+use Rattle.offers.specs.Read.{EachRead, FewRead}
 
-abbrev pushed : {B : Type 0} → Option (List B) → Option B → Option (List B)
-pushed None o = None
-pushed (Some xs) None = None
-pushed (Some xs) (Some y) = Some (xs ++ y ∷ [])
+module _ {A B : Type 0} (reads : A → Option B → Type 0) where
+  pub as-many : (xs : List A) (ys : List B) → EachRead reads xs (Some ys) → length ys ≡ length xs
+  as-many [] ys h = let e : ys ≡ [] = cc in ap length e
+  as-many (x ∷ xs) [] h = absurd h
+  as-many (x ∷ xs) (y ∷ ys) h = ap suc (as-many xs ys h.1)
 
-consed-pushed : {B : Type 0} (a : Option B) (xs : Option (List B)) (o : Option B) → consed a (pushed xs o) ≡ pushed (consed a xs) o
-consed-pushed None xs o = refl
-consed-pushed (Some a) None o = refl
-consed-pushed (Some a) (Some xs) None = refl
-consed-pushed (Some a) (Some xs) (Some y) = refl
+  pushed : (xs : List A) (ys : List B) (x : A) (y : B) → EachRead reads xs (Some ys) → reads x (Some y) → EachRead reads (xs ++ x ∷ []) (Some (ys ++ y ∷ []))
+  pushed [] [] x y e h = (h, refl)
+  pushed [] (z ∷ ys) x y e h = cc
+  pushed (w ∷ xs) [] x y e h = absurd e
+  pushed (w ∷ xs) (z ∷ ys) x y e h = (e.0, pushed xs ys x y e.1 h)
 
-alone : {B : Type 0} (o : Option B) → consed o (Some []) ≡ pushed (Some []) o
-alone None = refl
-alone (Some y) = refl
+  -- the one at i is read too
+  pub one_more : (xs : List A) (i : ℕ) (x : A) (ys zs : List B) (y : B) → i < length xs → x ≡ get_or xs i x → EachRead reads (take i xs) (Some ys) → reads x (Some y) → zs ≡ ys ++ y ∷ [] → EachRead reads (take (i + 1) xs) (Some zs)
+  one_more xs i x ys zs y l is e h z =
+      subst (λ o. EachRead reads (take (i + 1) xs) (Some o)) (sym z)
+      (subst (λ o. EachRead reads o (Some (ys ++ y ∷ []))) (ap (λ a. take i xs ++ a ∷ []) is ∙ sym (take_more xs i x l)) (pushed (take i xs) ys x y e h))
 
-every-push : {A B : Type 0} (read : A → Option B) (xs : List A) (x : A) → every read (xs ++ x ∷ []) ≡ pushed (every read xs) (read x)
-every-push read [] x = alone (read x)
-every-push read (w ∷ xs) x = ap (consed (read w)) (every-push read xs x) ∙ consed-pushed (read w) (every read xs) (read x)
+  -- the one at i is read as nothing
+  pub one-stops : (xs : List A) (i : ℕ) (x : A) (ys : List B) → i < length xs → x ≡ get_or xs i x → EachRead reads (take i xs) (Some ys) → reads x None → EachRead reads xs None
+  one-stops [] i x ys l is e h = absurd (omega arith)
+  one-stops (w ∷ xs) zero x ys l is e h = inl (subst (λ a. reads a None) is h)
+  one-stops (w ∷ xs) (suc i) x [] l is e h = absurd e
+  one-stops (w ∷ xs) (suc i) x (y ∷ ys) l is e h = inr (y, e.0, one-stops xs i x ys (omega arith) is e.1 h)
 
-no-rest : {B : Type 0} (o : Option B) → consed o None ≡ None
+  pub nothing-read : {R : Type 0} (xs : List A) (f : R → List B) (r : Option R) → r ≡ None → EachRead reads xs None → FewRead reads xs (option_map f r)
+  nothing-read xs f None e h = record { many = λ l. refl; few = λ l. h }
+  nothing-read xs f (Some k) e h = absurd cc
+
+  -- what is read is no more than 64
+  pub some-read : (xs : List A) (ys : List B) → FewRead reads xs (Some ys) → EachRead reads xs (Some ys)
+  some-read xs ys h = ⊎_elim (λ l. let none = h.many l in absurd cc) h.few (cases_lt 64 (length xs))
+
+no-rest : {C : Type 0} (o : Option C) → consed o None ≡ None
 no-rest None = refl
-no-rest (Some y) = refl
+no-rest (Some c) = refl
 
-every-stops : {A B : Type 0} (read : A → Option B) (xs : List A) (i : ℕ) (d : A) → i < length xs → read (get_or xs i d) ≡ None → every read xs ≡ None
-every-stops read [] i d l e = absurd (omega arith)
-every-stops read (x ∷ xs) zero d l e = ap (λ o. consed o (every read xs)) e
-every-stops read (x ∷ xs) (suc i) d l e = ap (consed (read x)) (every-stops read xs i d (omega arith) e) ∙ no-rest (read x)
+-- where each is read as `said` says
+module _ {A B C : Type 0} (reads : A → Option B → Type 0) (mean : B → C) (said : A → Option C) (told : (x : A) (r : Option B) → reads x r → option_map mean r ≡ said x) where
+  every_read : (xs : List A) (r : Option (List B)) → EachRead reads xs r → option_map (map mean) r ≡ every said xs
+  every_read [] r h = ap (option_map (map mean)) h
+  every_read (x ∷ xs) None (inl h) = ap (λ o. consed o (every said xs)) (told x None h)
+  every_read (x ∷ xs) None (inr h) = sym (no-rest (said x)) ∙ ap (consed (said x)) (every_read xs None h.2)
+  every_read (x ∷ xs) (Some []) h = absurd h
+  every_read (x ∷ xs) (Some (y ∷ ys)) h = ap₂ consed (told x (Some y) h.0) (every_read xs (Some ys) h.1)
 
-few-is : {A B : Type 0} (read : A → Option B) (xs : List A) → length xs ≤ 64 → few read xs ≡ every read xs
-few-is read xs l = ap (λ (b : Bool). elim b [ true ↦ every read xs | false ↦ None ]) (le-leb (length xs) 64 l)
-
--- one more is read and stored
-pub one_more :
-    {A B T : Type 0} (read : A → Option B) (mean : T → B) (xs : List A) (items : List T) (i : ℕ) (d : A) (t : T) → i < length xs → i < length items →
-    every read (take i xs) ≡ Some (map mean (take i items)) → Some (mean t) ≡ read (get_or xs i d) →
-    every read (take (i + 1) xs) ≡ Some (map mean (take (i + 1) (set items i t)))
-one_more read mean xs items i d t l m inv e =
-    ap (every read) (take_more xs i d l)
-    ∙ every-push read (take i xs) (get_or xs i d)
-    ∙ ap (λ o. pushed o (read (get_or xs i d))) inv
-    ∙ ap (pushed (Some (map mean (take i items)))) (sym e)
-    ∙ ap Some (sym (map_push mean (take i items) t) ∙ ap (map mean) (sym (take_more_set items i t m)))
-
--- one is read as nothing
-pub one-stops : {A B : Type 0} (read : A → Option B) (xs : List A) (i : ℕ) (d : A) → length xs ≤ 64 → i < length xs → None ≡ read (get_or xs i d) → None ≡ few read xs
-one-stops read xs i d m l e = sym (few-is read xs m ∙ every-stops read xs i d l (sym e))
-
--- all are read
-pub all_read :
-    {A B T : Type 0} (read : A → Option B) (mean : T → B) (xs : List A) (items : List T) (i : ℕ) → length xs ≤ 64 → i ≡ length xs →
-    every read (take i xs) ≡ Some (map mean (take i items)) → Some (map mean (take (length xs) items)) ≡ few read xs
-all_read read mean xs items i m e inv =
-    ap (λ n. Some (map mean (take n items))) (sym e)
-    ∙ sym inv
-    ∙ ap (every read) (take_all i xs (omega arith))
-    ∙ sym (few-is read xs m)
+  pub few_read : (xs : List A) (r : Option (List B)) → FewRead reads xs r → option_map (map mean) r ≡ few said xs
+  few_read xs r h = by_cases (leb (length xs) 64) refl where
+    by_cases : (b : Bool) → leb (length xs) 64 ≡ b → option_map (map mean) r ≡ elim b as (λ _. Option (List C)) [ true ↦ every said xs | false ↦ None ]
+    by_cases true e = every_read xs r (h.few (grind (arith, e)))
+    by_cases false e = ap (option_map (map mean)) (h.many (grind (arith, e)))

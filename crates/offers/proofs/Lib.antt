@@ -1,4 +1,4 @@
-mod Alike
+pub mod Alike
 pub mod Decided
 mod Every
 mod Typed

@@ -1,14 +1,14 @@
--- What the parts of a row mean that are read one by one. Assumes nothing.
-use Rattle.std.specs.Prelude.{ℕ, List, map, take}
-use Rattle.catalog.specs.Catalog.{CatalogAttribute}
-use Rattle.catalog.specs.Meaning.{text_of, attribute_meaning}
-use Rattle.offers.specs.declared.parts.Labels.{Labels}
-use Rattle.offers.specs.declared.parts.Attributes.{Attributes}
+-- Some that are read one by one, by a function that is known by what it may answer. Assumes nothing.
+use Rattle.std.specs.Prelude.{◌≡◌, ℕ, ◌<◌, ◌≤◌, ◌⊎◌, List, [], ◌∷◌, length, Some, None, Option}
 
--- the labels that stand
-abbrev pub labels_meaning : Labels → List (List ℕ)
-labels_meaning l = map text_of (take l.count l.items)
+-- what each is read as, in turn; nothing where one is read as nothing
+abbrev pub EachRead : {A B : Type 0} → (A → Option B → Type 0) → List A → Option (List B) → Type 0
+EachRead reads [] r = r ≡ Some []
+EachRead reads (x ∷ xs) None = reads x None ⊎ ((y : _) × reads x (Some y) × EachRead reads xs None)
+EachRead reads (x ∷ xs) (Some []) = ⊥
+EachRead reads (x ∷ xs) (Some (y ∷ ys)) = reads x (Some y) × EachRead reads xs (Some ys)
 
--- the attributes that stand
-abbrev pub attributes_meaning : Attributes → List CatalogAttribute
-attributes_meaning a = map attribute_meaning (take a.count a.items)
+-- at most 64 of them
+pub record FewRead {A B : Type 0} (reads : A → Option B → Type 0) (xs : List A) (r : Option (List B)) : Type 0 where
+  pub many : 64 < length xs → r ≡ None
+  pub few : length xs ≤ 64 → EachRead reads xs r

@@ -2,7 +2,6 @@
 #![tactic(auto)]
 
 pub mod offer;
-mod parts;
 pub mod rows;
 pub mod same;
 pub mod texts;

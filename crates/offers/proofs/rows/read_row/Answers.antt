@@ -1,10 +1,12 @@
-use Rattle.std.proofs.Common.{◌≡◌, ℕ, Bool, true, leb, List, Some, Option, sym, ap, ◌∙◌}
+use Rattle.std.proofs.Common.{rules, ◌≡◌, ℕ, Bool, true, leb, ◌⊎◌, List, Some, None, Option, inl, inr, refl, sym, ap, ◌∙◌}
 use Rattle.std.specs.Bool.{then_some}
 use Rattle.std.proofs.lemmas.Bool.{and_parts}
 use Rattle.catalog.specs.Catalog.{CatalogAttribute, CatalogRow}
 use Rattle.catalog.specs.Limits.{nonzero}
-use Rattle.catalog.specs.Meaning.{oid_told}
+use Rattle.catalog.specs.Meaning.{attribute_meaning, oid_told, row_told, text_of}
 use Rattle.offers.specs.Offered.{RowOffer, offer_of, attribute_at, few, offered_row, oids_fit, row_from, text_at}
+use Rattle.offers.proofs.Every.{few_read}
+use Rattle.offers.proofs.Typed.{all_read, typed-told}
 use Rattle.offers.proofs.rows.read_row.Goals as goal
 
 record LinksFit (r : RowOffer) : Type 0 where
@@ -45,17 +47,38 @@ row_is host r pretty labels attributes p l a fit =
     ∙ ap (λ (o : Option (List (List ℕ))). row_from r (text_at 128 host r.pretty) o (Some attributes)) l
     ∙ ap (λ (o : Option (List CatalogAttribute)). row_from r (text_at 128 host r.pretty) (few (text_at 63 host) r.labels) o) a
 
+-- where one of the parts is not read, the row is not
+not-read :
+    (host : List ℕ) (r : RowOffer) (pretty : List ℕ) → Some pretty ≡ text_at 128 host r.pretty → (None ≡ few (text_at 63 host) r.labels) ⊎ (None ≡ few (attribute_at host) r.attributes) →
+    None ≡ offered_row host r
+not-read host r pretty p (inl l) = λ i. row_from r (p i) (l i) (few (attribute_at host) r.attributes)
+not-read host r pretty p (inr a) = no-attributes (few (text_at 63 host) r.labels) ∙ λ i. row_from r (p i) (few (text_at 63 host) r.labels) (a i) where
+  no-attributes : (labels : Option (List (List ℕ))) → None ≡ row_from r (Some pretty) labels None
+  no-attributes None = refl
+  no-attributes (Some l) = refl
+
 pub invariant_of-result : goal.invariant_of-result
 invariant_of-result c =
     let fit = links-fit (offer_of c.args.offered) c.if-not-oids_fit.ensures in
-    let labels = c.in_ok-labels.field-0 in
-    let attributes = c.in_ok-attributes.field-0 in
-    record { element = fit.element; base = fit.base; subtype = fit.subtype; array = fit.array; few = (labels.few, attributes.few); typed = attributes.typed }
+    record { element = fit.element; base = fit.base; subtype = fit.subtype; array = fit.array; typed = all_read _ (λ x a p. typed-told c.args.host.now x (attribute_meaning a) (search rules)) _ _ c.in_ok-attributes.ensures }
+
+pub returns-in_err-labels : goal.returns-in_err-labels
+returns-in_err-labels c =
+    let r = offer_of c.args.offered in
+    ap row_told c.from_residual-in_err-labels.ensures
+    ∙ not-read c.args.host.now r _ c.in_ok-pretty.ensures (inl (few_read _ text_of (text_at 63 c.args.host.now) (λ x r p. search rules) _ _ c.in_err-labels.ensures))
+
+pub returns-in_err-attributes : goal.returns-in_err-attributes
+returns-in_err-attributes c =
+    let r = offer_of c.args.offered in
+    ap row_told c.from_residual-in_err-attributes.ensures
+    ∙ not-read c.args.host.now r _ c.in_ok-pretty.ensures (inr (few_read _ attribute_meaning (attribute_at c.args.host.now) (λ x r p. search rules) _ _ c.in_err-attributes.ensures))
 
 pub returns : goal.returns
 returns c =
-    row_is c.args.host.now (offer_of c.args.offered) _ _ _
+    let host = c.args.host.now in
+    row_is host (offer_of c.args.offered) _ _ _
     c.in_ok-pretty.ensures
-    c.in_ok-labels.ensures
-    c.in_ok-attributes.ensures
+    (few_read _ text_of (text_at 63 host) (λ x r p. search rules) _ _ c.in_ok-labels.ensures)
+    (few_read _ attribute_meaning (attribute_at host) (λ x r p. search rules) _ _ c.in_ok-attributes.ensures)
     c.if-not-oids_fit.ensures

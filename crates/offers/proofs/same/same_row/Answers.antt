@@ -1,13 +1,10 @@
-use Rattle.std.proofs.Common.{rules}
+use Rattle.std.proofs.Common.{◌∙◌}
 use Rattle.std.proofs.lemmas.Bool.Decides.{Decides-at}
 use Rattle.catalog.specs.Meaning.{row_meaning}
+use Rattle.offers.proofs.Alike.{row_alike}
 use Rattle.offers.proofs.Decided.{same-row-decides}
 use Rattle.offers.proofs.same.same_row.Goals as goal
 
-pub returns-then-same_links : goal.returns-then-same_links
-returns-then-same_links c =
-    record { told = search rules; decides = Decides-at _ _ (search rules) (same-row-decides (row_meaning c.args.a.now) (row_meaning c.args.b.now)) }
-
-pub returns-else-same_links : goal.returns-else-same_links
-returns-else-same_links c =
-    record { told = search rules; decides = Decides-at _ _ (search rules) (same-row-decides (row_meaning c.args.a.now) (row_meaning c.args.b.now)) }
+pub returns-clause-decides : goal.returns-clause-decides
+returns-clause-decides c =
+    Decides-at _ _ (c.eq.ensures ∙ row_alike c.args.a.now c.args.b.now) (same-row-decides (row_meaning c.args.a.now) (row_meaning c.args.b.now))

@@ -1,0 +1,20 @@
+use Rattle.std.proofs.Common.{take, arith, length-take}
+use Rattle.catalog.specs.Few.{standing}
+use Rattle.offers.proofs.Every.{as-many, nothing-read, one_more, one-stops}
+use Rattle.offers.proofs.rows.read_few.Given as given
+use Rattle.offers.proofs.rows.read_few.Goals as goal
+
+pub returns-in_err-read : goal.returns-in_err-read
+returns-in_err-read g c =
+    let reads = given.F-post g c.args.read in
+    nothing-read reads _ standing _ c.from_residual.ensures
+    (one-stops reads c.args.offered.now c.loop-one.one-index c.one-item.result _ c.loop-one-test.true c.one-item.is c.loop-one.invariant c.in_err-read.ensures)
+
+pub returns-in_err-push : goal.returns-in_err-push
+returns-in_err-push g c =
+    let some = as-many (given.F-post g c.args.read) (take c.loop-one.one-index c.args.offered.now) (standing c.loop-one.few) c.loop-one.invariant in
+    absurd (omega (arith, some, c.in_err-push.ensures, length-take c.loop-one.one-index c.args.offered.now))
+
+pub loop-one-preserved : goal.loop-one-preserved
+loop-one-preserved g c =
+    one_more (given.F-post g c.args.read) c.args.offered.now c.loop-one.one-index c.one-item.result _ _ _ c.loop-one-test.true c.one-item.is c.loop-one.invariant c.in_ok-read.ensures c.in_ok-push.ensures
