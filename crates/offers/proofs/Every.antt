@@ -1,5 +1,5 @@
 -- What is read one by one is what the definitions say of all. Assumes nothing.
-use Rattle.std.proofs.Common.{◌≡◌, ℕ, zero, suc, ◌+◌, ◌<◌, ◌≤◌, Bool, true, false, leb, List, [], ◌∷◌, ◌++◌, map, length, get_or, take, Some, None, Option, sym, refl, ap, ap₂, ◌∙◌, subst, inl, inr, ⊎_elim, arith}
+use Rattle.std.proofs.Common.{◌≡◌, ℕ, zero, suc, ◌+◌, ◌<◌, ◌≤◌, Bool, true, false, leb, List, [], ◌∷◌, ◌++◌, map, length, get_or, take, take_all, Some, None, Option, sym, refl, ap, ap₂, ◌∙◌, subst, inl, inr, ⊎_elim, arith}
 use Rattle.std.specs.Option.{option_map}
 use Rattle.std.proofs.lemmas.Bool.{cases_lt}
 use Rattle.std.proofs.lemmas.List.{take_more}
@@ -34,6 +34,16 @@ module _ {A B : Type 0} (reads : A → Option B → Type 0) where
   pub nothing-read : {R : Type 0} (xs : List A) (f : R → List B) (r : Option R) → r ≡ None → EachRead reads xs None → FewRead reads xs (option_map f r)
   nothing-read xs f None e h = record { many = λ l. refl; few = λ l. h }
   nothing-read xs f (Some k) e h = absurd cc
+
+  pub too-many : {R : Type 0} (xs : List A) (f : R → List B) (r : Option R) → r ≡ None → 64 < length xs → FewRead reads xs (option_map f r)
+  too-many xs f None e h = record { many = λ l. refl; few = λ l. absurd (omega arith) }
+  too-many xs f (Some k) e h = absurd cc
+
+  pub all-read : (xs : List A) (i : ℕ) (ys : List B) → length xs ≤ i → EachRead reads (take i xs) (Some ys) → length ys ≤ 64 → FewRead reads xs (Some ys)
+  all-read xs i ys l h m =
+      let read = subst (λ o. EachRead reads o (Some ys)) (take_all i xs l) h in
+      let same = as-many xs ys read in
+      record { many = λ n. absurd (omega arith); few = λ n. read }
 
   -- what is read is no more than 64
   pub some-read : (xs : List A) (ys : List B) → FewRead reads xs (Some ys) → EachRead reads xs (Some ys)

@@ -27,5 +27,5 @@ module _ {A : Type 0} (reads : A → Option Attribute → Type 0) (typed : (x : 
   each (x ∷ xs) [] h = absurd h
   each (x ∷ xs) (y ∷ ys) h = and_from (ltb 0 y.oid.0) (all_typed ys) (typed x y h.0) (each xs ys h.1)
 
-  pub all_read : (xs : List A) (ys : List Attribute) → FewRead reads xs (Some ys) → all_typed ys ≡ true
-  all_read xs ys h = each xs ys (some-read reads xs ys h)
+  pub all-typed : (xs : List A) (ys : List Attribute) → FewRead reads xs (Some ys) → all_typed ys ≡ true
+  all-typed xs ys h = each xs ys (some-read reads xs ys h)

@@ -1,5 +1,5 @@
 -- Some that are read one by one, by a function that is known by what it may answer. Assumes nothing.
-use Rattle.std.specs.Prelude.{◌≡◌, ℕ, ◌<◌, ◌≤◌, ◌⊎◌, List, [], ◌∷◌, length, Some, None, Option}
+use Rattle.std.specs.Prelude.{◌≡◌, ◌<◌, ◌≤◌, ◌⊎◌, List, [], ◌∷◌, length, Some, None, Option}
 
 -- what each is read as, in turn; nothing where one is read as nothing
 abbrev pub EachRead : {A B : Type 0} → (A → Option B → Type 0) → List A → Option (List B) → Type 0

@@ -36,9 +36,6 @@ fn read_few<A: Copy, B: Copy, F: Fn(A) -> Option<B>>(
     requires { F.IsAlwaysCallable read }
     ensures { FewRead (F.post read) offered.now (option_map standing result) }
 {
-    if offered.len() > 64 {
-        return None;
-    }
     let mut few = Few::new(unused);
     for one in offered {
         few.push(read(*one)?)?;
@@ -49,10 +46,7 @@ fn read_few<A: Copy, B: Copy, F: Fn(A) -> Option<B>>(
 fn link_fits(link: Option<Oid>) -> bool
     ensures { result ≡ nonzero link }
 {
-    match link {
-        Some(oid) => oid.0 > 0,
-        None => true,
-    }
+    link != Some(Oid(0))
 }
 
 fn oids_fit(offered: OfferedRow<'_>) -> bool

@@ -14,10 +14,7 @@ pub fn text_at<const N: usize>(host: &[u8], span: Span) -> Option<Text<N>>
 {
     let start = span.start as usize;
     let end = start + span.length as usize;
-    if end > host.len() {
-        return None;
-    }
-    Text::new(&host[start..end])
+    Text::new(host.get(start..end)?)
 }
 
 pub fn read_name(host: &[u8], span: Span) -> Option<LongName>

@@ -1,6 +1,7 @@
 use Rattle.std.proofs.Common.{take, arith, length-take}
 use Rattle.catalog.specs.Few.{standing}
-use Rattle.offers.proofs.Every.{as-many, nothing-read, one_more, one-stops}
+use Rattle.catalog.proofs.Fits.{at-most}
+use Rattle.offers.proofs.Every.{all-read, as-many, nothing-read, one_more, one-stops, too-many}
 use Rattle.offers.proofs.rows.read_few.Given as given
 use Rattle.offers.proofs.rows.read_few.Goals as goal
 
@@ -12,8 +13,14 @@ returns-in_err-read g c =
 
 pub returns-in_err-push : goal.returns-in_err-push
 returns-in_err-push g c =
-    let some = as-many (given.F-post g c.args.read) (take c.loop-one.one-index c.args.offered.now) (standing c.loop-one.few) c.loop-one.invariant in
-    absurd (omega (arith, some, c.in_err-push.ensures, length-take c.loop-one.one-index c.args.offered.now))
+    let reads = given.F-post g c.args.read in
+    let some = as-many reads (take c.loop-one.one-index c.args.offered.now) (standing c.loop-one.few) c.loop-one.invariant in
+    too-many reads c.args.offered.now standing _ c.from_residual-in_err-push.ensures
+    (omega (arith, some, c.in_err-push.ensures, length-take c.loop-one.one-index c.args.offered.now))
+
+pub returns : goal.returns
+returns g c =
+    all-read (given.F-post g c.args.read) c.args.offered.now c.loop-one.one-index (standing c.loop-one.few) c.loop-one-test.false c.loop-one.invariant (at-most c.loop-one.few)
 
 pub loop-one-preserved : goal.loop-one-preserved
 loop-one-preserved g c =

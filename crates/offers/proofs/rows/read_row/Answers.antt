@@ -6,7 +6,7 @@ use Rattle.catalog.specs.Limits.{nonzero}
 use Rattle.catalog.specs.Meaning.{attribute_meaning, oid_told, row_told, text_of}
 use Rattle.offers.specs.Offered.{RowOffer, offer_of, attribute_at, few, offered_row, oids_fit, row_from, text_at}
 use Rattle.offers.proofs.Every.{few_read}
-use Rattle.offers.proofs.Typed.{all_read, typed-told}
+use Rattle.offers.proofs.Typed.{all-typed, typed-told}
 use Rattle.offers.proofs.rows.read_row.Goals as goal
 
 record LinksFit (r : RowOffer) : Type 0 where
@@ -60,7 +60,7 @@ not-read host r pretty p (inr a) = no-attributes (few (text_at 63 host) r.labels
 pub invariant_of-result : goal.invariant_of-result
 invariant_of-result c =
     let fit = links-fit (offer_of c.args.offered) c.if-not-oids_fit.ensures in
-    record { element = fit.element; base = fit.base; subtype = fit.subtype; array = fit.array; typed = all_read _ (λ x a p. typed-told c.args.host.now x (attribute_meaning a) (search rules)) _ _ c.in_ok-attributes.ensures }
+    record { element = fit.element; base = fit.base; subtype = fit.subtype; array = fit.array; typed = all-typed _ (λ x a p. typed-told c.args.host.now x (attribute_meaning a) (search rules)) _ _ c.in_ok-attributes.ensures }
 
 pub returns-in_err-labels : goal.returns-in_err-labels
 returns-in_err-labels c =
