@@ -2,6 +2,8 @@
 ghost use Rattle.std.specs.Prelude.{◌≡◌};
 ghost use Rattle.catalog.specs.Faults.{addition_told, fault_told};
 
+use std::error::Error;
+use std::fmt;
 use type_info::oid::Oid;
 
 // The part of the library that refuses.
@@ -60,6 +62,30 @@ impl CatalogFault {
         }
     }
 }
+
+impl fmt::Display for HeldIn {
+    fn fmt<W: fmt::Write>(&self, f: &mut fmt::Formatter<W>) -> fmt::Result {
+        f.write_str(match self {
+            HeldIn::Rows => "rows",
+            HeldIn::Names => "names",
+            HeldIn::Parts => "parts",
+            HeldIn::Columns => "columns",
+        })
+    }
+}
+
+impl fmt::Display for CatalogFault {
+    fn fmt<W: fmt::Write>(&self, f: &mut fmt::Formatter<W>) -> fmt::Result {
+        match self {
+            CatalogFault::NoAllowance { round } => write!(f, "no allowance for round {round}"),
+            CatalogFault::BreaksLimit(of) => write!(f, "{} breaks a limit", of.0),
+            CatalogFault::Contradicts(of) => write!(f, "{} contradicts what is held", of.0),
+            CatalogFault::Full(table) => write!(f, "no room among the {table}"),
+        }
+    }
+}
+
+impl Error for CatalogFault {}
 
 // An addition opens no round.
 fn addition(number: u8, place: u32) -> Told

@@ -8,7 +8,5 @@ leads-back : (m : Catalog) → Laws m → (o : ℕ) (r : Option Row) → row_tol
 leads-back m l o None e = tt
 leads-back m l o (Some k) e = l.pretty_leads o (row_meaning k) (sym e)
 
-pub returns : goal.returns
-returns g c =
-    let m = g.C.TypeCatalog.meaning c.args.catalog.now in
-    record { answer = c.row.ensures; back = leads-back m (g.C.TypeCatalog.laws c.args.catalog.now) c.args.oid.0 c.row.result c.row.ensures }
+pub returns-clause-back : goal.returns-clause-back
+returns-clause-back g c = leads-back _ (g.C.TypeCatalog.laws c.args.catalog.now) c.args.oid.0 c.row.result c.row.ensures
