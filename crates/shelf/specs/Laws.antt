@@ -57,7 +57,7 @@ array-nonzero o = by_cases (array_of o) refl where
   by_cases (Some a) e = (placed (is_array_of o) a (first_some (is_array_of o) entries a e)).oid
 
 mapped-some : {A B : Type 0} (f : A → B) (o : Option A) (b : B) → option_map f o ≡ Some b → (a : A) × (o ≡ Some a) × (f a ≡ b)
-mapped-some f None b e = let z : ◌≡◌ {A = ℕ} 0 1 = cc in absurd (omega arith)
+mapped-some f None b e = absurd cc
 mapped-some f (Some a) b e = (a, refl, cc)
 
 fits : (o : ℕ) (e : Entry) → by_oid o ≡ Some e → RowFits (shelf_row e)
@@ -87,7 +87,7 @@ shelf-laws n = record {
       let w = mapped-some (λ (e : Entry). e.oid) (by_name s) o h in
       let back = laws.oid_finds_again s w.0 w.1 in
       subst (Sized 128) back.0 (bounds w.0.oid w.0 back.1).name;
-  columns_fit = λ o a k e. let z : ◌≡◌ {A = ℕ} 0 1 = cc in absurd (omega arith);
+  columns_fit = λ o a k e. absurd cc;
   pretty_leads = λ o r h.
       let w = mapped-some shelf_row (by_oid o) r h in
       let back = laws.name_finds_again o w.0 w.1 in
@@ -96,5 +96,5 @@ shelf-laws n = record {
       let w = mapped-some (λ (e : Entry). e.oid) (by_name s) o h in
       let back = laws.oid_finds_again s w.0 w.1 in
       (shelf_row w.0, ap (λ (k : ℕ). option_map shelf_row (by_oid k)) (sym w.2) ∙ ap (option_map shelf_row) back.1);
-  one_table = λ o a b k m e d. let z : ◌≡◌ {A = ℕ} 0 1 = cc in absurd (omega arith);
+  one_table = λ o a b k m e d. absurd cc;
 }

@@ -1,11 +1,12 @@
 -- An unfolding exists exactly where no row is missing or malformed and no links go round. Assumes nothing.
 use Rattle.std.proofs.Common.{◌≡◌, ℕ, zero, suc, ◌+◌, ◌<◌, ◌≤◌, true, false, ◌⊎◌, List, [], ◌∷◌, length, Some, sym, refl, ap, subst, inl, inr, ⊎_elim, arith}
+use Rattle.std.proofs.lemmas.Bool.{cases_Bool}
 use Rattle.unfolding.specs.Lists.{Mem}
 use Rattle.catalog.specs.Catalog.{Catalog}
 use Rattle.unfolding.specs.Shapes.{Shape, formed}
 use Rattle.unfolding.specs.Unfolding.{Tree, built, node, Trees, none, more, Link, Unfolds, UnfoldAll, HasUnfolding, Leads, itself, onward, built_in}
 use Rattle.unfolding.specs.Laws.{GoesRound, Exists}
-use Rattle.unfolding.proofs.Lists.{Distinct, not-both, same_some, split-bool, pigeon}
+use Rattle.unfolding.proofs.Lists.{Distinct, pigeon}
 use Rattle.unfolding.proofs.Unfolding.{unique, link-has}
 
 abbrev mutual
@@ -36,9 +37,9 @@ module _ (c : Catalog) where
   part-size (o ∷ os) (more t ts) p u h (inr m) x = omega (arith, part-size os ts p u h.1 m x)
 
   link-size : (o p : ℕ) (t u : Tree) → built_in o ≡ false → Unfolds c o t → Link c o p → Unfolds c p u → size u < size t
-  link-size o p (built q) u nb x l y = absurd (not-both x.1 nb)
+  link-size o p (built q) u nb x l y = absurd cc
   link-size o p (node q n h ts) u nb x l y =
-      let same : l.0 ≡ x.0 = same_some l.1 x.1 in
+      let same : l.0 ≡ x.0 = cc in
       omega (arith, part-size x.0.links ts p u x.6 (subst (λ (s : Shape). Mem p s.links) same l.2) y)
 
   leads-size : (o p : ℕ) (t u : Tree) → Unfolds c o t → Leads c o p → Unfolds c p u → size u ≤ size t
@@ -78,7 +79,7 @@ module _ (c : Catalog) where
         (λ y. (built o, (refl, y)))
         (λ nb.
         ⊎_elim
-        (λ y. absurd (not-both y nb))
+        (λ y. absurd cc)
         (λ f.
         let s = f.0 in
         let step : (p : ℕ) → Mem p s.links → HasUnfolding c p = λ p k.
@@ -94,7 +95,7 @@ module _ (c : Catalog) where
         let ts = all-unfold s.links step in
         (node o s.name s.head ts.0, (s, f.1, nb, refl, refl, refl, ts.1)))
         (fine o lead))
-        (split-bool (built_in o))
+        (cases_Bool (built_in o))
 
     root-unfolds : HasUnfolding c r
     root-unfolds = unfold-by (length os) [] r (itself refl) (λ x. x, tt) (λ q x. absurd x) (λ q x. absurd x) (omega arith)

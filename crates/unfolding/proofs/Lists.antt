@@ -1,24 +1,7 @@
 -- Lists of numbers, and choices. Assumes nothing.
-use Rattle.std.proofs.Common.{◌≡◌, ℕ, suc, ◌≤◌, Bool, true, false, eqb, ◌⊎◌, List, [], ◌∷◌, length, Some, None, Option, sym, refl, ap, ◌∙◌, subst, inl, inr, ⊎_elim, arith}
-use Rattle.std.proofs.lemmas.Bool.{eqb-true, eq-eqb}
+use Rattle.std.proofs.Common.{◌≡◌, ℕ, suc, ◌≤◌, Bool, true, false, eqb, List, [], ◌∷◌, length, sym, refl, ap, ◌∙◌, subst, inl, inr, ⊎_elim, arith}
+use Rattle.std.proofs.lemmas.Bool.{cases_Bool, eqb-true, eq-eqb}
 use Rattle.unfolding.specs.Lists.{Mem}
-
-pub not-both : {b : Bool} → b ≡ true → b ≡ false → ⊥
-not-both {b} p q = let z : ◌≡◌ {A = ℕ} 0 1 = cc in omega arith
-
-pub not-some-none : {A : Type 0} {x : Option A} (a : A) → x ≡ Some a → x ≡ None → ⊥
-not-some-none {A} {x} a p q = let z : ◌≡◌ {A = ℕ} 0 1 = cc in omega arith
-
-pub same_some : {A : Type 0} {x : Option A} {a b : A} → x ≡ Some a → x ≡ Some b → a ≡ b
-same_some {A} {x} {a} {b} p q = cc
-
-pub split-bool : (b : Bool) → (b ≡ true) ⊎ (b ≡ false)
-split-bool true = inl refl
-split-bool false = inr refl
-
-pub split-option : {A : Type 0} (x : Option A) → (x ≡ None) ⊎ ((a : A) × (x ≡ Some a))
-split-option None = inl refl
-split-option (Some a) = inr (a, refl)
 
 -- no number twice
 abbrev pub Distinct : List ℕ → Type 0
@@ -36,9 +19,9 @@ without-length x (y ∷ ys) m =
     ⊎_elim
     (λ t. ap (λ (v : Bool). suc (length (elim v as (λ _. List ℕ) [ true ↦ ys | false ↦ y ∷ without x ys ]))) t)
     (λ f.
-    let later : Mem x ys = ⊎_elim (λ e. absurd (not-both (eq-eqb x y e) f)) (λ k. k) m in
+    let later : Mem x ys = ⊎_elim (λ e. let t = eq-eqb x y e in absurd cc) (λ k. k) m in
     ap (λ (v : Bool). suc (length (elim v as (λ _. List ℕ) [ true ↦ ys | false ↦ y ∷ without x ys ]))) f ∙ ap suc (without-length x ys later))
-    (split-bool (eqb x y))
+    (cases_Bool (eqb x y))
 
 without-mem : (x o : ℕ) (ys : List ℕ) → Mem o ys → (o ≡ x → ⊥) → Mem o (without x ys)
 unfolding without
@@ -51,7 +34,7 @@ without-mem x o (y ∷ ys) m n =
     (λ f.
     let there : Mem o (y ∷ without x ys) = ⊎_elim (λ (e : o ≡ y). inl e) (λ k. inr (without-mem x o ys k n)) m in
     subst (λ (v : Bool). Mem o (elim v as (λ _. List ℕ) [ true ↦ ys | false ↦ y ∷ without x ys ])) (sym f) there)
-    (split-bool (eqb x y))
+    (cases_Bool (eqb x y))
 
 -- a list without repetition is no longer than one that has all of its entries
 pub pigeon : (xs ys : List ℕ) → Distinct xs → ((o : ℕ) → Mem o xs → Mem o ys) → length xs ≤ length ys

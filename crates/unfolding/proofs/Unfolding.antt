@@ -1,18 +1,17 @@
 -- An OID has at most one unfolding, and keeps it as the catalog grows. Assumes nothing.
-use Rattle.std.proofs.Common.{◌≡◌, ℕ, false, List, [], ◌∷◌, Some, sym, refl, ap, ◌∙◌, subst, inl, inr, ⊎_elim}
+use Rattle.std.proofs.Common.{◌≡◌, ℕ, false, List, [], ◌∷◌, Some, None, Option, sym, refl, ap, ◌∙◌, subst, inl, inr}
 use Rattle.unfolding.specs.Lists.{Mem}
 use Rattle.catalog.specs.Catalog.{Catalog, CatalogRow, Grows}
 use Rattle.unfolding.specs.Shapes.{Shape, shape, shape_of_row, formed}
 use Rattle.unfolding.specs.Unfolding.{Tree, built, node, Trees, none, more, Link, Unfolds, UnfoldAll, HasUnfolding, built_in}
-use Rattle.unfolding.proofs.Lists.{not-both, same_some, not-some-none, split-option}
 
 pub formed-row : (c : Catalog) (o : ℕ) (s : Shape) → formed c o ≡ Some s → (r : CatalogRow) × (c.rows o ≡ Some r) × (shape r ≡ Some s)
 unfolding formed
 formed-row c o s e =
-    ⊎_elim
-    (λ n. absurd (not-some-none s e (ap shape_of_row n)))
-    (λ r. (r.0, r.1, sym (ap shape_of_row r.1) ∙ e))
-    (split-option (c.rows o))
+    by_cases (c.rows o) refl e where
+      by_cases : (r : Option CatalogRow) → c.rows o ≡ r → shape_of_row r ≡ Some s → (k : CatalogRow) × (c.rows o ≡ Some k) × (shape k ≡ Some s)
+      by_cases None h e = absurd cc
+      by_cases (Some k) h e = (k, h, e)
 
 pub row-formed : (c : Catalog) (o : ℕ) (r : CatalogRow) → c.rows o ≡ Some r → formed c o ≡ shape r
 unfolding formed
@@ -24,10 +23,10 @@ formed-grows c d g o s e = let r = formed-row c o s e in row-formed d o r.0 (g.r
 mutual
   pub unique : (c : Catalog) (o : ℕ) (t u : Tree) → Unfolds c o t → Unfolds c o u → t ≡ u
   unique c o (built p) (built q) h k = ap built (sym h.0 ∙ k.0)
-  unique c o (built p) (node q m e us) h k = absurd (not-both h.1 k.2)
-  unique c o (node p n d ts) (built q) h k = absurd (not-both k.1 h.2)
+  unique c o (built p) (node q m e us) h k = absurd cc
+  unique c o (node p n d ts) (built q) h k = absurd cc
   unique c o (node p n d ts) (node q m e us) h k =
-      let same : h.0 ≡ k.0 = same_some h.1 k.1 in
+      let same : h.0 ≡ k.0 = cc in
       let rest : ts ≡ us = uniques c k.0.links ts us (subst (λ (s : Shape). UnfoldAll c s.links ts) same h.6) k.6 in
       λ i. node ((sym h.3 ∙ k.3) i) ((sym h.4 ∙ ap (λ (s : Shape). s.name) same ∙ k.4) i) ((sym h.5 ∙ ap (λ (s : Shape). s.head) same ∙ k.5) i) (rest i)
 
@@ -59,7 +58,7 @@ all_have c (o ∷ os) (more t ts) p h (inl e) = (t, subst (λ (q : ℕ). Unfolds
 all_have c (o ∷ os) (more t ts) p h (inr m) = all_have c os ts p h.1 m
 
 pub link-has : (c : Catalog) (o p : ℕ) (t : Tree) → built_in o ≡ false → Unfolds c o t → Link c o p → HasUnfolding c p
-link-has c o p (built q) nb h l = absurd (not-both h.1 nb)
+link-has c o p (built q) nb h l = absurd cc
 link-has c o p (node q n d ts) nb h l =
-    let same : l.0 ≡ h.0 = same_some l.1 h.1 in
+    let same : l.0 ≡ h.0 = cc in
     all_have c h.0.links ts p h.6 (subst (λ (s : Shape). Mem p s.links) same l.2)

@@ -2,14 +2,14 @@ use Rattle.std.proofs.Common.{◌≡◌, ℕ, ◌≤◌, true, List, [], length,
 use Rattle.std.specs.Option.{option_map}
 use Rattle.std.proofs.lemmas.Bool.{lt-ltb}
 use Rattle.catalog.specs.Catalog.{CatalogAttribute, CatalogRow, Nonzero}
-use Rattle.catalog.specs.Limits.{all_typed, nonzero}
+use Rattle.catalog.specs.Limits.{nonzero}
 use Rattle.catalog.specs.Meaning.{attribute_meaning, oid_told, text_of}
 use Rattle.type_info.specs.declared.oid.Oid.{Oid}
 use Rattle.type_info.specs.Meaning.{entry_of}
 use Rattle.type_info.specs.Table.{Entry, by_oid, array_of}
 use Rattle.type_info.proofs.Facts.{laws}
 use Rattle.shelf.specs.Rows.{typtype_byte, category_byte, element_oid, subtype_oid, shelf_row}
-use Rattle.shelf.specs.Laws.{bounds, array-nonzero}
+use Rattle.shelf.specs.Laws.{Bounds, bounds, array-nonzero}
 use Rattle.shelf.proofs.shelf.ShelfTypeCatalog.row.Goals as goal
 use Rattle.shelf.proofs.shelf.ShelfTypeCatalog.row.Goals.{In_ok-entry}
 
@@ -28,23 +28,28 @@ row_is e name typtype category element subtype array labels attributes p q r s t
 found-entry : (c : In_ok-entry) → by_oid c.args.oid.0 ≡ Some (entry_of c.in_ok-entry.entry)
 found-entry c = sym c.in_ok-entry.ensures
 
+-- what the table says of the entry
+bounds-at : (c : In_ok-entry) → Bounds (entry_of c.in_ok-entry.entry)
+bounds-at c = bounds c.args.oid.0 (entry_of c.in_ok-entry.entry) (found-entry c)
+
 pub returns-in_err-pretty : goal.returns-in_err-pretty
 returns-in_err-pretty c =
     let a = (goal.at.returns-in_err-pretty c).In_ok-entry in
-    let size = subst (λ (n : List ℕ). (1 ≤ length n) × (length n ≤ 128)) (sym c.name.ensures) (bounds c.args.oid.0 (entry_of c.in_ok-entry.entry) (found-entry a)).name in
+    let size = subst (λ (n : List ℕ). (1 ≤ length n) × (length n ≤ 128)) (sym c.name.ensures) (bounds-at a).name in
     absurd (c.in_err-pretty.ensures size.0 size.1)
 
-pub invariant_of-result : goal.invariant_of-result
-invariant_of-result c =
-    let a = (goal.at.invariant_of-result c).In_ok-entry in
-    let b = bounds c.args.oid.0 (entry_of c.in_ok-entry.entry) (found-entry a) in
-    record {
-      element = tested c.typelem.result (subst Nonzero (sym (c.typelem.ensures ∙ ap element_oid c.kind-kind.ensures)) b.element);
-      base = refl;
-      subtype = tested c.rngsubtype.result (subst Nonzero (sym (c.rngsubtype.ensures ∙ ap subtype_oid c.kind-kind.ensures)) b.subtype);
-      array = tested c.typarray.result (subst Nonzero (sym c.typarray.ensures) (array-nonzero c.args.oid.0));
-      typed = ap all_typed c.new-attributes.ensures;
-    }
+pub invariant_of-result-clause-element : goal.invariant_of-result-clause-element
+invariant_of-result-clause-element c =
+    let b = bounds-at (goal.at.invariant_of-result-clause-element c).In_ok-entry in
+    tested c.typelem.result (subst Nonzero (sym (c.typelem.ensures ∙ ap element_oid c.kind-kind.ensures)) b.element)
+
+pub invariant_of-result-clause-subtype : goal.invariant_of-result-clause-subtype
+invariant_of-result-clause-subtype c =
+    let b = bounds-at (goal.at.invariant_of-result-clause-subtype c).In_ok-entry in
+    tested c.rngsubtype.result (subst Nonzero (sym (c.rngsubtype.ensures ∙ ap subtype_oid c.kind-kind.ensures)) b.subtype)
+
+pub invariant_of-result-clause-array : goal.invariant_of-result-clause-array
+invariant_of-result-clause-array c = tested c.typarray.result (subst Nonzero (sym c.typarray.ensures) (array-nonzero c.args.oid.0))
 
 pub returns : goal.returns
 returns c =
