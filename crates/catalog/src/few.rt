@@ -11,12 +11,25 @@ pub struct Few<T, const N: usize> {
 }
 
 impl<T, const N: usize> Few<T, N> {
+    ghost use Rattle.std.specs.Prelude.{◌↔◌, IsTrue, []};
     ghost use Rattle.catalog.specs.Few.{standing};
 
     pub fn as_slice(&self) -> &[T]
         ensures { result.now ≡ standing self.now }
     {
         &self.items[..self.count]
+    }
+
+    pub fn len(&self) -> usize
+        ensures { result ≡ length (standing self.now) }
+    {
+        self.as_slice().len()
+    }
+
+    pub fn is_empty(&self) -> bool
+        ensures { IsTrue result ↔ (standing self.now ≡ []) }
+    {
+        self.as_slice().is_empty()
     }
 }
 
