@@ -1,6 +1,7 @@
 -- The derived comparison of rows is the test on what they tell. Assumes nothing.
-use Rattle.std.proofs.Common.{◌≡◌, Bool, true, false, ◌&&◌, List, [], ◌∷◌, map, Some, None, Option, refl, ap₂, ◌∙◌}
+use Rattle.std.proofs.Common.{◌≡◌, Bool, ◌&&◌, List, [], ◌∷◌, map, Some, None, Option, refl, ap₂, ◌∙◌}
 use Rattle.std.specs.Prelude.{◌==◌}
+use Rattle.std.proofs.Math.Bool.{and_assoc}
 use Rattle.std.specs.Cmp.Lexicographic.{pointwise}
 use Rattle.std.specs.Option.{option_eq}
 use Rattle.std.specs.Str.{bytes_eq}
@@ -24,14 +25,7 @@ each-alike like same mean h (x ∷ xs) [] = refl
 each-alike like same mean h (x ∷ xs) (y ∷ ys) = ap₂ ◌&&◌ (h x y) (each-alike like same mean h xs ys)
 
 grouped : (p t c u v w x y z : Bool) → (p && (t && (c && (u && (v && (w && (x && (y && z)))))))) ≡ ((p && (t && c)) && ((u && (v && (w && x))) && (y && z)))
-grouped false t c u v w x y z = refl
-grouped true false c u v w x y z = refl
-grouped true true false u v w x y z = refl
-grouped true true true false v w x y z = refl
-grouped true true true true false w x y z = refl
-grouped true true true true true false x y z = refl
-grouped true true true true true true false y z = refl
-grouped true true true true true true true y z = refl
+grouped p t c u v w x y z = simp and_assoc
 
 pub row_alike : (a b : Row) → ghosts.eq a b ≡ same_row (row_meaning a) (row_meaning b)
 row_alike a b =
