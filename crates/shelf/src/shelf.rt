@@ -1,5 +1,5 @@
 // The shelf as a catalog.
-ghost use Rattle.std.specs.Prelude.{◌≡◌};
+ghost use Rattle.std.specs.Prelude.{◌≡◌, ℕ};
 ghost use Rattle.catalog.specs.Catalog.{spent};
 ghost use Rattle.shelf.specs.Laws.{shelf-laws};
 ghost use Rattle.shelf.specs.Rows.{shelf_of};
@@ -9,6 +9,7 @@ use catalog::few::Few;
 use catalog::questions::{ColumnCatalog, NoAllowance, TypeCatalog};
 use catalog::row::Row;
 use catalog::values::{Attribute, Column, LongName, ShortName};
+use std::marker::Model;
 use type_info::builtin::{by_name, by_oid};
 use type_info::oid::{AttributeNumber, Oid};
 
@@ -22,21 +23,28 @@ pub struct ShelfRound {
     number: u32,
 }
 
+// A shelf is known by what is left of its allowance.
+impl Model for Shelf {
+    ghost Value = { ℕ };
+
+    ghost view = { λ s. s.allowance };
+}
+
 impl Shelf {
     pub fn new(allowance: u32) -> Shelf
-        ensures { shelf_of result.allowance ≡ shelf_of allowance }
+        ensures { shelf_of result ≡ shelf_of allowance }
     {
         Shelf { allowance }
     }
 
     pub fn set_allowance(&mut self, allowance: u32)
-        ensures { shelf_of self.new.allowance ≡ spent (shelf_of self.old.allowance) allowance }
+        ensures { shelf_of self.new ≡ spent (shelf_of self.old) allowance }
     {
         self.allowance = allowance;
     }
 
     pub fn allowance(&self) -> u32
-        ensures { result ≡ (shelf_of self.now.allowance).allowance }
+        ensures { result ≡ (shelf_of self.now).allowance }
     {
         self.allowance
     }
@@ -45,9 +53,9 @@ impl Shelf {
 impl TypeCatalog for Shelf {
     type Round = ShelfRound;
 
-    ghost meaning = { λ s. shelf_of s.allowance };
+    ghost meaning = { shelf_of };
 
-    ghost laws = { λ s. shelf-laws s.allowance };
+    ghost laws = { shelf-laws };
 
     fn open(&mut self) -> Result<ShelfRound, NoAllowance> {
         if self.allowance == 0 {
