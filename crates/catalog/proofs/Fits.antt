@@ -11,11 +11,11 @@ use Rattle.catalog.specs.Catalog.{RowFits, Each, Sized, Nonzero}
 use Rattle.catalog.specs.Limits.{nonzero, all_typed}
 use Rattle.catalog.specs.Meaning.{text_of, oid_told, attribute_meaning, row_meaning}
 
-pub at-most : {T : Type 0} {n : ℕ} (f : Few T n) → length (standing f) ≤ n
-at-most f = simp length-take (omega arith)
+pub at_most : {T : Type 0} {n : ℕ} (f : Few T n) → length (standing f) ≤ n
+at_most f = simp length-take (omega arith)
 
 pub text-sized : (n : ℕ) (t : Text n) → Sized n (text_of t)
-text-sized n t = (t.some, at-most t.bytes)
+text-sized n t = (t.some, at_most t.bytes)
 
 linked : (o : Option Oid) → nonzero o ≡ true → Nonzero (oid_told o)
 linked None e = tt
@@ -43,8 +43,8 @@ row_fits r = record {
   base_fits = linked r.typbasetype r.base;
   sub_fits = linked r.rngsubtype r.subtype;
   array_fits = linked r.typarray r.array;
-  labels_few = simp length-map (at-most r.labels);
+  labels_few = simp length-map (at_most r.labels);
   labels_fit = labels-sized (standing r.labels);
-  attributes_few = simp length-map (at-most r.attributes);
+  attributes_few = simp length-map (at_most r.attributes);
   attributes_fit = attributes-sized (standing r.attributes) r.typed;
 }

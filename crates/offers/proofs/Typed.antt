@@ -8,7 +8,7 @@ use Rattle.catalog.specs.Limits.{all_typed}
 use Rattle.offers.specs.declared.offer.OfferedAttribute.{OfferedAttribute}
 use Rattle.offers.specs.Offered.{attribute_at, text_at, typed_as}
 use Rattle.offers.specs.Read.{EachRead, FewRead}
-use Rattle.offers.proofs.Every.{some-read}
+use Rattle.offers.proofs.Every.{some_read}
 
 told : (oid : ℕ) (name : Option (List ℕ)) (a : CatalogAttribute) → Some a ≡ typed_as oid name → ltb 0 a.typed ≡ true
 told oid None a e = absurd cc
@@ -18,8 +18,8 @@ told oid (Some name) a e = by_cases (leb 1 oid) refl e where
   by_cases false h e = absurd cc
 
 -- what is read of an attribute
-pub typed-told : (host : List ℕ) (x : OfferedAttribute) (a : CatalogAttribute) → Some a ≡ attribute_at host x → ltb 0 a.typed ≡ true
-typed-told host x a e = told x.oid.0 (text_at 63 host x.name) a e
+pub typed_told : (host : List ℕ) (x : OfferedAttribute) (a : CatalogAttribute) → Some a ≡ attribute_at host x → ltb 0 a.typed ≡ true
+typed_told host x a e = told x.oid.0 (text_at 63 host x.name) a e
 
 module _ {A : Type 0} (reads : A → Option Attribute → Type 0) (typed : (x : A) (a : Attribute) → reads x (Some a) → ltb 0 a.oid.0 ≡ true) where
   each : (xs : List A) (ys : List Attribute) → EachRead reads xs (Some ys) → all_typed ys ≡ true
@@ -27,5 +27,5 @@ module _ {A : Type 0} (reads : A → Option Attribute → Type 0) (typed : (x : 
   each (x ∷ xs) [] h = absurd h
   each (x ∷ xs) (y ∷ ys) h = and_from (ltb 0 y.oid.0) (all_typed ys) (typed x y h.0) (each xs ys h.1)
 
-  pub all-typed : (xs : List A) (ys : List Attribute) → FewRead reads xs (Some ys) → all_typed ys ≡ true
-  all-typed xs ys h = each xs ys (some-read reads xs ys h)
+  pub each_typed : (xs : List A) (ys : List Attribute) → FewRead reads xs (Some ys) → all_typed ys ≡ true
+  each_typed xs ys h = each xs ys (some_read reads xs ys h)

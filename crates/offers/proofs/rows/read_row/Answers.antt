@@ -6,7 +6,7 @@ use Rattle.catalog.specs.Limits.{nonzero}
 use Rattle.catalog.specs.Meaning.{attribute_meaning, oid_told, row_told, text_of}
 use Rattle.offers.specs.Offered.{RowOffer, offer_of, attribute_at, few, offered_row, oids_fit, row_from, text_at}
 use Rattle.offers.proofs.Every.{few_read}
-use Rattle.offers.proofs.Typed.{all-typed, typed-told}
+use Rattle.offers.proofs.Typed.{each_typed, typed_told}
 use Rattle.offers.proofs.rows.read_row.Goals as goal
 
 record LinksFit (r : RowOffer) : Type 0 where
@@ -15,8 +15,8 @@ record LinksFit (r : RowOffer) : Type 0 where
   subtype : nonzero r.rngsubtype ≡ true
   array : nonzero r.typarray ≡ true
 
-links-fit : (r : RowOffer) → true ≡ oids_fit r → LinksFit r
-links-fit r e =
+links_fit : (r : RowOffer) → true ≡ oids_fit r → LinksFit r
+links_fit r e =
     let a = and_parts (leb 1 r.oid.0) _ (sym e) in
     let b = and_parts (nonzero r.typelem) _ a.1 in
     let c = and_parts (nonzero r.typbasetype) _ b.1 in
@@ -48,31 +48,31 @@ row_is host r pretty labels attributes p l a fit =
     ∙ ap (λ (o : Option (List CatalogAttribute)). row_from r (text_at 128 host r.pretty) (few (text_at 63 host) r.labels) o) a
 
 -- where one of the parts is not read, the row is not
-not-read :
+not_read :
     (host : List ℕ) (r : RowOffer) (pretty : List ℕ) → Some pretty ≡ text_at 128 host r.pretty → (None ≡ few (text_at 63 host) r.labels) ⊎ (None ≡ few (attribute_at host) r.attributes) →
     None ≡ offered_row host r
-not-read host r pretty p (inl l) = λ i. row_from r (p i) (l i) (few (attribute_at host) r.attributes)
-not-read host r pretty p (inr a) = no-attributes (few (text_at 63 host) r.labels) ∙ λ i. row_from r (p i) (few (text_at 63 host) r.labels) (a i) where
-  no-attributes : (labels : Option (List (List ℕ))) → None ≡ row_from r (Some pretty) labels None
-  no-attributes None = refl
-  no-attributes (Some l) = refl
+not_read host r pretty p (inl l) = λ i. row_from r (p i) (l i) (few (attribute_at host) r.attributes)
+not_read host r pretty p (inr a) = no_attributes (few (text_at 63 host) r.labels) ∙ λ i. row_from r (p i) (few (text_at 63 host) r.labels) (a i) where
+  no_attributes : (labels : Option (List (List ℕ))) → None ≡ row_from r (Some pretty) labels None
+  no_attributes None = refl
+  no_attributes (Some l) = refl
 
 pub invariant_of-result : goal.invariant_of-result
 invariant_of-result c =
-    let fit = links-fit (offer_of c.args.offered) c.if-not-oids_fit.ensures in
-    record { element = fit.element; base = fit.base; subtype = fit.subtype; array = fit.array; typed = all-typed _ (λ x a p. typed-told c.args.host.now x (attribute_meaning a) (search rules)) _ _ c.in_ok-attributes.ensures }
+    let fit = links_fit (offer_of c.args.offered) c.if-not-oids_fit.ensures in
+    record { element = fit.element; base = fit.base; subtype = fit.subtype; array = fit.array; typed = each_typed _ (λ x a p. typed_told c.args.host.now x (attribute_meaning a) (search rules)) _ _ c.in_ok-attributes.ensures }
 
 pub returns-in_err-labels : goal.returns-in_err-labels
 returns-in_err-labels c =
     let r = offer_of c.args.offered in
     ap row_told c.from_residual-in_err-labels.ensures
-    ∙ not-read c.args.host.now r _ c.in_ok-pretty.ensures (inl (few_read _ text_of (text_at 63 c.args.host.now) (λ x r p. search rules) _ _ c.in_err-labels.ensures))
+    ∙ not_read c.args.host.now r _ c.in_ok-pretty.ensures (inl (few_read _ text_of (text_at 63 c.args.host.now) (λ x r p. search rules) _ _ c.in_err-labels.ensures))
 
 pub returns-in_err-attributes : goal.returns-in_err-attributes
 returns-in_err-attributes c =
     let r = offer_of c.args.offered in
     ap row_told c.from_residual-in_err-attributes.ensures
-    ∙ not-read c.args.host.now r _ c.in_ok-pretty.ensures (inr (few_read _ attribute_meaning (attribute_at c.args.host.now) (λ x r p. search rules) _ _ c.in_err-attributes.ensures))
+    ∙ not_read c.args.host.now r _ c.in_ok-pretty.ensures (inr (few_read _ attribute_meaning (attribute_at c.args.host.now) (λ x r p. search rules) _ _ c.in_err-attributes.ensures))
 
 pub returns : goal.returns
 returns c =
