@@ -1,18 +1,7 @@
--- A line or a word and what follows it, and a text at a separator.
-use Rattle.std.proofs.Common.{◌≡◌, ℕ, suc, ◌+◌, ◌-◌, ◌<◌, List, [], ◌∷◌, ◌++◌, length, get_or, take, drop, sym, refl, arith, rules}
-use Rattle.std.specs.List.{AllByRecursion}
-use Rattle.std.proofs.lemmas.List.{take_rest, drop_more, take-append-drop, places}
+-- A line or a word and what follows it.
+use Rattle.std.proofs.Common.{◌≡◌, ℕ, zero, suc, ◌≤◌, ◌<◌, List, [], ◌∷◌, ◌++◌, length, get_or, take, drop, refl, arith}
 use Rattle.std.proofs.lemmas.Bool.{eq-eqb, ne_eqb}
 use Rattle.script.specs.Words.{Absent, joined, lines, words}
-
--- a text is what stands before its byte at i, that byte, and a shorter rest
-abbrev pub SplitsAt : List ℕ → ℕ → Type 0
-SplitsAt s i = i < length s →
-    (s ≡ take i s ++ (get_or s i 0 ∷ take (length s - (i + 1)) (drop (i + 1) s)))
-    × (length (take (length s - (i + 1)) (drop (i + 1) s)) < length s)
-
-pub splits-at : (s : List ℕ) (i : ℕ) → SplitsAt s i
-splits-at s i h = (rw (take_rest s (i + 1), ← drop_more s i 0 h) (sym (take-append-drop i s)), search (rules, places))
 
 absent-head : (b x : ℕ) (s : List ℕ) → Absent b (x ∷ s) → x ≡ b → ⊥
 absent-head b x s never = never 0 (omega arith)
@@ -35,10 +24,24 @@ alone : (b c : ℕ) (cs : List ℕ) (ws : List (List ℕ)) → c ≡ 32 → join
 alone b c cs [] e = refl
 alone b c cs (w ∷ ws) e = rw (eq-eqb c 32 e)
 
-pub words-first : (w r : List ℕ) → 0 < length w → AllByRecursion (λ b. b ≡ 32 → ⊥) w → (0 < length r → get_or r 0 0 ≡ 32) →
-    words (w ++ r) ≡ w ∷ words r
-words-first [] r some all at = absurd (omega arith)
-words-first (b ∷ []) [] some all at = rw (ne_eqb b 32 all.0)
-words-first (b ∷ []) (c ∷ cs) some all at = rw (ne_eqb b 32 all.0) (alone b c cs (words (c ∷ cs)) (at (omega arith)))
-words-first (b ∷ (c ∷ w)) r some all at =
-    rw (ne_eqb b 32 all.0, words-first (c ∷ w) r (omega arith) all.1 at, ne_eqb c 32 all.1.0)
+-- a line that begins with i spaces
+pub past-spaces : (s : List ℕ) (i : ℕ) → ((k : ℕ) → k < i → get_or s k 0 ≡ 32) → words s ≡ words (drop i s)
+past-spaces s zero all = refl
+past-spaces [] (suc i) all = refl
+past-spaces (b ∷ s) (suc i) all = rw (eq-eqb b 32 (all 0 (omega arith))) (past-spaces s i (λ k h. all (suc k) (omega arith)))
+
+-- a line whose first i bytes are a word
+pub first-word : (s : List ℕ) (i : ℕ) → 0 < i → i ≤ length s → ((k : ℕ) → k < i → get_or s k 0 ≡ 32 → ⊥) → (i < length s → get_or s i 0 ≡ 32) →
+    words s ≡ take i s ∷ words (drop i s)
+first-word s zero some le none at = absurd (omega arith)
+first-word [] (suc i) some le none at = absurd (omega arith)
+first-word (b ∷ []) (suc zero) some le none at = rw (ne_eqb b 32 (none 0 (omega arith)))
+first-word (b ∷ (c ∷ s)) (suc zero) some le none at =
+    rw (ne_eqb b 32 (none 0 (omega arith))) (alone b c s (words (c ∷ s)) (at (omega arith)))
+first-word (b ∷ []) (suc (suc i)) some le none at = absurd (omega arith)
+first-word (b ∷ (c ∷ s)) (suc (suc i)) some le none at =
+    rw (
+      ne_eqb b 32 (none 0 (omega arith)),
+      first-word (c ∷ s) (suc i) (omega arith) (omega arith) (λ k h. none (suc k) (omega arith)) (λ h. at (omega arith)),
+      ne_eqb c 32 (none 1 (omega arith)),
+    )

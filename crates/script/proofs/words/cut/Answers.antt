@@ -1,13 +1,11 @@
-use Rattle.std.proofs.Common.{◌+◌, rules}
-use Rattle.std.proofs.lemmas.List.{take_all, places}
-use Rattle.script.proofs.Lines.{splits-at}
+use Rattle.std.proofs.Common.{◌≡◌, ℕ, ◌+◌, ◌<◌, List, ◌∷◌, ◌++◌, length, get_or, take, drop, sym, rules}
+use Rattle.std.proofs.lemmas.List.{drop_more, take-append-drop, take_rest, places}
 use Rattle.script.proofs.words.cut.Goals as goal
 
-pub loop-i-init : goal.loop-i-init
-loop-i-init c = (search rules, splits-at c.args.text.now 0)
+split : (s : List ℕ) (i b : ℕ) (rest : List ℕ) → i < length s → get_or s i 0 ≡ b → rest ≡ drop (i + 1) s → s ≡ take i s ++ (b ∷ rest)
+split s i b rest h e same = rw (same, ← e, ← drop_more s i 0 h) (sym (take-append-drop i s))
 
-pub loop-i-preserved : goal.loop-i-preserved
-loop-i-preserved c = (search (rules, places), splits-at c.args.text.now (c.loop-i.i + 1))
-
-pub returns : goal.returns
-returns c = record { parts = rw (take_all c.loop-i.i c.args.text.now (search rules)) at c.loop-i.invariant.0; shorter = tt }
+-- the check finds this by itself; it is written so that a wrong `cut` is refused by the fact that fails
+pub returns-clause-parts : goal.returns-clause-parts
+returns-clause-parts c =
+    (split c.args.text.now c.in_ok-end.end c.args.separator _ (search rules) (search rules) (search (rules, take_rest)), search (rules, places))

@@ -1,28 +1,14 @@
-use Rattle.std.proofs.Common.{◌≡◌, ℕ, ◌-◌, ◌<◌, List, [], ◌∷◌, length, take, drop, refl, ap, ◌∙◌, arith, rules}
-use Rattle.std.proofs.lemmas.List.{take_rest, drop_all}
-use Rattle.script.specs.Words.{lines}
+use Rattle.std.proofs.Common.{◌≡◌, ℕ, ◌<◌, List, [], ◌∷◌, length, Some, None, Option, Bor, refl, ap, ◌∙◌, rules}
+use Rattle.std.specs.Option.{unwrap_or}
+use Rattle.script.specs.Words.{CutAt, lines}
 use Rattle.script.proofs.Lines.{lines-first, lines-last}
 use Rattle.script.proofs.words.first_line.Goals as goal
 
-nothing_left : (s : List ℕ) → take (length s - length s) (drop (length s) s) ≡ []
-nothing_left s = rw (take_rest s (length s)) (drop_all (length s) s (omega arith))
+first : (s : List ℕ) (cut : Option (Bor (List ℕ) × Bor (List ℕ))) (whole : Bor (List ℕ) × Bor (List ℕ)) → 0 < length s → CutAt 10 s cut →
+    whole.0.now ≡ s → whole.1.now ≡ [] → lines s ≡ (unwrap_or cut whole).0.now ∷ lines (unwrap_or cut whole).1.now
+first s None whole some never all none = rw (all, none) (lines-last s some never)
+first s (Some parts) whole some h all none = ap lines h.0 ∙ lines-first parts.0.now parts.1.now h.1
 
-no_lines : (s : List ℕ) → length s ≡ 0 → lines s ≡ []
-no_lines [] e = refl
-no_lines (b ∷ s) e = absurd (omega arith)
-
-pub returns-then-is_empty : goal.returns-then-is_empty
-returns-then-is_empty c = record { first = no_lines c.args.text.now (search rules); shorter = tt }
-
-pub returns-in-Some : goal.returns-in-Some
-returns-in-Some c =
-    let parts = c.in-Some.ensures.parts in
-    record { first = ap lines parts.0 ∙ lines-first c.in-Some.parts.0.now c.in-Some.parts.1.now parts.1; shorter = c.in-Some.ensures.shorter }
-
-pub returns-in-None : goal.returns-in-None
-returns-in-None c =
-    let some : 0 < length c.args.text.now = search rules in
-    record {
-      first = rw (nothing_left c.args.text.now) (lines-last c.args.text.now some c.in-None.ensures.parts);
-      shorter = rw (nothing_left c.args.text.now) some;
-    }
+pub returns-clause-first : goal.returns-clause-first
+returns-clause-first c =
+    rw c.unwrap_or.ensures (first c.args.text.now c.cut.result _ (search rules) (search rules) refl refl)

@@ -1,41 +1,25 @@
-use Rattle.std.proofs.Common.{◌≡◌, ℕ, ◌+◌, ◌-◌, ◌<◌, ◌≤◌, List, ◌∷◌, length, get_or, take, drop, sym, ap, ◌∙◌, rules}
-use Rattle.std.proofs.lemmas.List.{at_drop_more, at_drop_all, take-append-drop, drop-drop, take_rest, places}
-use Rattle.std.proofs.ByRecursion.{All-from_get_or}
-use Rattle.std.proofs.lemmas.Bool.{eq-eqb}
+use Rattle.std.proofs.Common.{◌≡◌, ℕ, ◌-◌, ◌<◌, List, length, get_or, take, drop, sym, ap, ◌∙◌, arith, rules}
+use Rattle.std.proofs.lemmas.List.{at_drop_all, take_rest, places}
 use Rattle.script.specs.Words.{words}
-use Rattle.script.proofs.Lines.{words-first}
+use Rattle.script.proofs.Lines.{past-spaces, first-word}
 use Rattle.script.proofs.words.next_word.Goals as goal
 
-past-space : (s : List ℕ) (i : ℕ) → i < length s → get_or s i 0 ≡ 32 → words (drop i s) ≡ words (drop (i + 1) s)
-past-space s i h e = at_drop_more words s i 0 h ∙ rw (eq-eqb (get_or s i 0) 32 e)
-
-word_at : (s : List ℕ) (i j : ℕ) → i < j → j ≤ length s →
-    ((k : ℕ) → k < j → i ≤ k → get_or s k 0 ≡ 32 → ⊥) → (j < length s → get_or s j 0 ≡ 32) →
-    words (drop i s) ≡ take (j - i) (drop i s) ∷ words (take (length s - j) (drop j s))
-word_at s i j lt le none at =
-    let sum : i + (j - i) ≡ j = search rules in
-    ap words (sym (take-append-drop (j - i) (drop i s)))
-    ∙ words-first (take (j - i) (drop i s)) (drop (j - i) (drop i s)) (search (rules, places))
-    (All-from_get_or (λ b. b ≡ 32 → ⊥) (take (j - i) (drop i s)) 0 (λ k h. search (rules, places)))
-    (search (rules, places))
-    ∙ rw (take_rest, drop-drop, sum)
-
-pub loop-start-preserved : goal.loop-start-preserved
-loop-start-preserved c =
-    (search rules, c.loop-start.invariant.1 ∙ past-space c.args.line.now c.loop-start.start (search rules) (search rules))
-
-pub returns-then-start-line : goal.returns-then-start-line
-returns-then-start-line c = record {
-  first = c.loop-start.invariant.1 ∙ at_drop_all words c.args.line.now c.loop-start.start (search rules);
-  shorter = tt;
-}
+pub returns-in_err-start-clause-first : goal.returns-in_err-start-clause-first
+returns-in_err-start-clause-first c =
+    let line = c.args.line.now in
+    rw c.from_residual.ensures (past-spaces line (length line) (search rules) ∙ at_drop_all words line (length line) (omega arith))
 
 pub returns : goal.returns
 returns c =
-    let lt : c.loop-start.start < c.loop-end.end = search rules in
+    let rest : List ℕ = take (length c.args.line.now - c.in_ok-start.start) (drop c.in_ok-start.start c.args.line.now) in
+    let some : 0 < length rest = search (rules, places) in
+    let none : get_or rest 0 0 ≡ 32 → ⊥ = search (rules, places) in
+    let word : 0 < c.unwrap_or-end.result = search rules in
     record {
       first =
-          c.loop-start.invariant.1
-          ∙ word_at c.args.line.now c.loop-start.start c.loop-end.end lt (search rules) c.loop-end.invariant.2 (search rules);
+          past-spaces c.args.line.now c.in_ok-start.start (search rules)
+          ∙ ap words (sym (take_rest c.args.line.now c.in_ok-start.start))
+          ∙ first-word rest c.unwrap_or-end.result word (search rules) (search rules) (search rules)
+          ∙ rw (c.split_at.ensures.front, c.split_at.ensures.back);
       shorter = search (rules, places);
     }
