@@ -1,26 +1,12 @@
-use Rattle.std.proofs.Common.{◌≡◌, ℕ, ◌+◌, ◌^◌, ◌<◌, List, length, get_or, drop, Option, sym, ◌∙◌, rules}
-use Rattle.std.proofs.lemmas.List.{at_drop_more, at_drop_all}
-use Rattle.script.specs.Numbers.{with_digit}
-use Rattle.script.proofs.Behind.{number_behind, number_with, behind_more}
+use Rattle.std.proofs.Common.{rules, ◌≡◌, ◌^◌, sym, ◌∙◌}
+use Rattle.script.specs.Numbers.{number_below}
+use Rattle.script.proofs.Behind.{behind_run, behind_end, number_behind}
 use Rattle.script.proofs.numbers.unsigned.Goals as goal
-
-step : (s : List ℕ) (i n : ℕ) (o r : Option ℕ) → i < length s → o ≡ number_behind (2 ^ 32) n (drop i s) →
-    r ≡ with_digit (2 ^ 32) n (get_or s i 0) → o ≡ number_with (2 ^ 32) r (drop (i + 1) s)
-step s i n o r h inv e =
-    inv ∙ at_drop_more (number_behind (2 ^ 32) n) s i 0 h ∙ behind_more (2 ^ 32) n (get_or s i 0) (drop (i + 1) s) r e
-
-pub returns-in_err-number : goal.returns-in_err-number
-returns-in_err-number c =
-    rw c.from_residual.ensures
-    (sym (step c.args.word.now c.loop-digit.digit-index c.loop-digit.number _ _ (search rules) c.loop-digit.invariant.0 c.in_err-number.ensures))
-
-pub loop-digit-preserved : goal.loop-digit-preserved
-loop-digit-preserved c = (
-  step c.args.word.now c.loop-digit.digit-index c.loop-digit.number _ _ (search rules) c.loop-digit.invariant.0 c.in_ok-number.ensures,
-  search rules,
-)
 
 pub returns : goal.returns
 returns c =
-    let end = at_drop_all (number_behind (2 ^ 32) c.loop-digit.number) c.args.word.now c.loop-digit.digit-index (search rules) in
-    search rules
+    let h = c.try_fold.ensures.ran in
+    let run = behind_run _ (2 ^ 32) (λ p x q k. search rules) h.0 c.iter.result h.4.0 _ _ h.4.1 h.5 (search rules) in
+    let end = behind_end (2 ^ 32) h.3 h.4.0 c.try_fold.new.self h.1 c.try_fold.result run.1 (λ x k. search rules) h.4.2 h.6 in
+    let below : number_below (2 ^ 32) c.args.word.now ≡ number_behind (2 ^ 32) 0 c.iter.result.rest.now = search rules in
+    sym (below ∙ run.0 ∙ end)
