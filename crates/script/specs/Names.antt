@@ -44,16 +44,23 @@ unescaped (b ∷ (h ∷ [])) = plainly b (unescaped (h ∷ []))
 unescaped (b ∷ (h ∷ (l ∷ rest))) =
     cond (b == 37) (escaped (hex_digit h) (hex_digit l) (unescaped rest)) (plainly b (unescaped (h ∷ (l ∷ rest))))
 
--- the first byte that a written text stands for and a shorter rest for the others; nothing where it stands for none
-abbrev pub NextByte : List ℕ → Option (ℕ × Bor (List ℕ)) → Type 0
-NextByte written None = 0 < length written → unescaped written ≡ None
-NextByte written (Some next) =
+-- the first byte that a written text stands for and a shorter rest for the others; nothing where the text is at its end
+abbrev pub NextByte : List ℕ → Result (Option (ℕ × Bor (List ℕ))) NameFault → Type 0
+NextByte written (Ok None) = written ≡ []
+NextByte written (Ok (Some next)) =
     (unescaped written ≡ consed next.0 (unescaped next.1.now)) × (length next.1.now < length written)
+NextByte written (Err NotAName) = unescaped written ≡ None
+NextByte written (Err OutOfMemory) = ⊥
 
 -- what a text holds with the bytes of a name behind it, if there is a name
 abbrev pub laid : List ℕ → Option (List ℕ) → Option (List ℕ)
 laid before None = None
 laid before (Some name) = Some (before ++ name)
+
+-- how a fault is told
+abbrev pub fault_text : NameFault → List ℕ
+fault_text NotAName = codes "not a name"
+fault_text OutOfMemory = codes "out of memory"
 
 -- the bytes that a text writes laid behind what another holds; a fault may leave some of them there
 abbrev pub Laid : List ℕ → List ℕ → List ℕ → Result (Unit {0}) NameFault → Type 0

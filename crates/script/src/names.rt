@@ -1,9 +1,11 @@
 // Names with %HH for any byte and %- for the empty name.
-ghost use Rattle.std.specs.Prelude.{◌≡◌, ◌<◌, IfSome};
+ghost use Rattle.std.specs.Prelude.{◌≡◌, Some};
 ghost use Rattle.script.specs.declared.names.NameFault.TheVariants.{OutOfMemory};
-ghost use Rattle.script.specs.Names.{Decoded, Laid, NextByte, ShownReadsBack, hex_byte, hex_digit};
+ghost use Rattle.script.specs.Names.{Decoded, Laid, NextByte, ShownReadsBack, fault_text, hex_byte, hex_digit};
 
 use std::alloc::{AllocError, AllocFailed};
+use std::error::Error;
+use std::fmt;
 
 // Why a name was not laid into the text.
 #[derive(Clone, Copy, PartialEq, Eq, Debug)]
@@ -11,6 +13,19 @@ pub enum NameFault {
     NotAName,
     OutOfMemory,
 }
+
+impl fmt::Display for NameFault {
+    ghost output = { λ fault. Some (fault_text fault) };
+
+    fn fmt<W: fmt::Write>(&self, f: &mut fmt::Formatter<W>) -> fmt::Result {
+        match self {
+            NameFault::NotAName => write!(f, "not a name"),
+            NameFault::OutOfMemory => write!(f, "out of memory"),
+        }
+    }
+}
+
+impl Error for NameFault {}
 
 impl From<AllocError> for NameFault {
     ghost from_gives = { λ e r. r ≡ OutOfMemory };
@@ -28,34 +43,27 @@ impl<T: Drop> From<AllocFailed<T>> for NameFault {
     }
 }
 
-fn hex_digit(b: u8) -> Option<u8>
-    ensures value { result ≡ hex_digit b }
-    ensures small { IfSome result (λ d. d < 16) }
-{
-    match b {
-        b'0'..=b'9' => Some(b - b'0'),
-        b'A'..=b'F' => Some(b - b'A' + 10),
-        b'a'..=b'f' => Some(b - b'a' + 10),
-        _ => None,
-    }
-}
-
 // The byte that two hexadecimal digits write.
 fn hex_byte(high: u8, low: u8) -> Option<u8>
     ensures { result ≡ hex_byte (hex_digit high) (hex_digit low) }
 {
-    Some(hex_digit(high)? * 16 + hex_digit(low)?)
+    let high = char::from(high).to_digit(16)?;
+    let low = char::from(low).to_digit(16)?;
+    Some((high * 16 + low) as u8)
 }
 
-// The first byte that a written name stands for, and the rest of what is written.
-fn next_byte(written: &[u8]) -> Option<(u8, &[u8])>
+// The first byte that a written name stands for, and the rest of what is written; nothing at its end.
+fn next_byte(written: &[u8]) -> Result<Option<(u8, &[u8])>, NameFault>
     ensures { NextByte written.now result }
 {
     match written {
-        [b'%', high, low, rest @ ..] => Some((hex_byte(*high, *low)?, rest)),
-        [b'%', ..] => None,
-        [b @ 0x21..=0x7e, rest @ ..] => Some((*b, rest)),
-        _ => None,
+        [] => Ok(None),
+        [b'%', high, low, rest @ ..] => {
+            let b = hex_byte(*high, *low).ok_or(NameFault::NotAName)?;
+            Ok(Some((b, rest)))
+        }
+        [b, rest @ ..] if *b != b'%' && b.is_ascii_graphic() => Ok(Some((*b, rest))),
+        _ => Err(NameFault::NotAName),
     }
 }
 
@@ -81,12 +89,9 @@ fn decode_bytes(word: &[u8], text: &mut Vec<u8>) -> Result<(), NameFault>
     ensures { Laid word.now text.old.items text.new.items result }
 {
     let mut rest = word;
-    while !rest.is_empty() {
-        let Some((b, tail)) = next_byte(rest) else {
-            return Err(NameFault::NotAName);
-        };
+    while let Some((b, further)) = next_byte(rest)? {
         text.push(b)?;
-        rest = tail;
+        rest = further;
     }
     Ok(())
 }

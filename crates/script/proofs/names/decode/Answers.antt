@@ -1,8 +1,10 @@
-use Rattle.std.proofs.Common.{◌≡◌, ℕ, ◌≤◌, false, List, [], ◌∷◌, ◌++◌, length, get_or, is_err, Some, None, Ok, Err, vec_items, codes, Option, Result, sym, refl, ap, ◌∙◌, ⊎_elim, append-nil, arith, rules}
+use Rattle.std.proofs.Common.{◌≡◌, ℕ, ◌≤◌, true, false, take, List, [], ◌∷◌, ◌++◌, length, get_or, is_err, Some, None, Ok, Err, vec_items, codes, Option, Result, sym, refl, ap, ◌∙◌, ⊎_elim, append-nil, arith, rules}
 use Rattle.std.specs.Str.{bytes_eq}
 use Rattle.std.proofs.lemmas.Slice.Eq.{text_from_reads, bytes_eq-Decides}
-use Rattle.std.proofs.lemmas.Bool.{true≢false, ne_eqb, cases_Bool, cond-false}
+use Rattle.std.proofs.lemmas.Bool.{ne_eqb, cases_Bool, cond-false}
 use Rattle.script.specs.declared.names.NameFault.{NameFault}
+use Rattle.script.specs.declared.names.NameFault.TheVariants.{NotAName, OutOfMemory}
+use Rattle.script.specs.declared.names.NameFault.TheVariants.{NotAName, OutOfMemory}
 use Rattle.script.specs.Names.{Decoded, Laid, laid, named, unescaped}
 use Rattle.script.proofs.names.decode.Goals as goal
 
@@ -19,14 +21,28 @@ named_other (b ∷ bs) some empty at =
 
 name-from-laid : (before after : List ℕ) (o : Option (List ℕ)) → laid before o ≡ Some after →
     (name : List ℕ) × (o ≡ Some name) × (after ≡ before ++ name)
-name-from-laid before after None e = absurd (let z : ◌≡◌ {A = ℕ} 0 1 = cc in omega arith)
+name-from-laid before after None e = cc
 name-from-laid before after (Some name) e = (name, refl, cc)
 
+-- a word that is neither, and what was laid of it
 decoded : (word before after : List ℕ) (r : Result (Unit {0}) NameFault) → false ≡ is_err r → named word ≡ unescaped word →
     Laid word before after r → Decoded word before after r
-decoded word before after (Ok done) ok same h =
-    let found = name-from-laid before after (unescaped word) h in (found.0, same ∙ found.1, found.2)
-decoded word before after (Err fault) ok same h = absurd (true≢false (sym ok))
+decoded word before after (Ok done) ok same h = rw same (name-from-laid before after (unescaped word) h)
+decoded word before after (Err fault) ok same h = cc
+
+-- the same where the text is cut back to what it held
+put_back : (word before after kept : List ℕ) (r : Result (Unit {0}) NameFault) → true ≡ is_err r → named word ≡ unescaped word →
+    Laid word before after r → kept ≡ take (length before) after → Decoded word before kept r
+put_back word before after kept (Ok done) err same h back = cc
+put_back word before after kept (Err NotAName) err same h back = (same ∙ h.0, back ∙ h.1)
+put_back word before after kept (Err OutOfMemory) err same h back = back ∙ h
+
+at-sign : (word before : List ℕ) → 1 ≤ length word → get_or word 0 0 ≡ 64 → Decoded word before before (Err NotAName)
+at-sign [] before some e = absurd (omega arith)
+at-sign (b ∷ bs) before some e = rw e (refl, refl)
+
+pub returns-in-empty-2 : goal.returns-in-empty-2
+returns-in-empty-2 c = search (rules, at-sign)
 
 pub returns-in-37 : goal.returns-in-37
 returns-in-37 c = (
@@ -41,3 +57,11 @@ returns-else-is_err c =
     c.if-is_err.ensures.value
     (named_other c.args.word.now (search rules) (search rules) (search rules))
     c.decode_bytes-done.ensures
+
+pub returns-then-is_err : goal.returns-then-is_err
+returns-then-is_err c =
+    put_back c.args.word.now (vec_items c.args.text.now) (vec_items c.decode_bytes-done.new.text) (vec_items c.truncate.new.self) c.decode_bytes-done.result
+    c.if-is_err.ensures.value
+    (named_other c.args.word.now (search rules) (search rules) (search rules))
+    c.decode_bytes-done.ensures
+    (search rules)

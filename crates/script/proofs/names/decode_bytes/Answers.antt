@@ -1,6 +1,8 @@
-use Rattle.std.proofs.Common.{◌≡◌, ℕ, ◌≤◌, List, [], ◌∷◌, ◌++◌, length, take, Some, None, vec_items, Option, refl, ap, ◌∙◌, arith, rules}
-use Rattle.std.proofs.lemmas.List.{take_all, append_assoc, length-take, take-append-le}
-use Rattle.script.specs.Names.{consed, laid, unescaped}
+use Rattle.std.proofs.Common.{◌≡◌, ℕ, ◌≤◌, List, [], ◌∷◌, ◌++◌, length, take, Some, None, Err, vec_items, Option, refl, ap, ◌∙◌, arith, rules}
+use Rattle.std.proofs.lemmas.List.{append_assoc, length-take, take-append-le}
+use Rattle.script.specs.declared.names.NameFault.{NameFault}
+use Rattle.script.specs.declared.names.NameFault.TheVariants.{NotAName, OutOfMemory}
+use Rattle.script.specs.Names.{Laid, NextByte, consed, laid, unescaped}
 use Rattle.script.proofs.names.decode_bytes.Goals as goal
 
 laid_more : (before after : List ℕ) (b : ℕ) (o rest : Option (List ℕ)) → o ≡ consed b rest → after ≡ before ++ (b ∷ []) →
@@ -16,18 +18,23 @@ front-more : (xs ys zs : List ℕ) → take (length xs) ys ≡ xs → take (leng
 front-more xs ys zs e =
     let le : length xs ≤ length ys = omega (arith, simp length-take at (ap length e)) in rw take-append-le e
 
-pub loop-rest-init : goal.loop-rest-init
-loop-rest-init c = (refl, search (rules, take_all))
+refused : (word rest before after : List ℕ) (fault : NameFault) → NextByte rest (Err fault) → laid before (unescaped word) ≡ laid after (unescaped rest) →
+    take (length before) after ≡ before → Laid word before after (Err fault)
+refused word rest before after NotAName none same front = (none-from-laid before (unescaped word) (same ∙ rw none), front)
+refused word rest before after OutOfMemory never same front = absurd never
 
-pub returns-in_default : goal.returns-in_default
-returns-in_default c =
-    let none = c.in_default.ensures (search rules) in
-    (none-from-laid (vec_items c.args.text.now) (unescaped c.args.word.now) (c.loop-rest.invariant.0 ∙ rw none), c.loop-rest.invariant.1)
+pub returns-in_err-b : goal.returns-in_err-b
+returns-in_err-b c =
+    let same : c.from_residual.result ≡ Err c.in_err-b.field-0.0 = search rules in
+    rw same
+    (refused c.args.word.now c.loop-b.rest.now (vec_items c.args.text.now) (vec_items c.loop-b.text) c.in_err-b.field-0.0
+    c.in_err-b.ensures c.loop-b.invariant.0 c.loop-b.invariant.1)
 
-pub loop-rest-preserved : goal.loop-rest-preserved
-loop-rest-preserved c =
+pub loop-b-preserved : goal.loop-b-preserved
+loop-b-preserved c =
+    let next = rw c.in-Some.is at c.in_ok-b.ensures in
     let pushed = c.in_ok-push.ensures.items in (
-      c.loop-rest.invariant.0
-          ∙ laid_more (vec_items c.loop-rest.text) (vec_items c.push.new.self) c.in-Some.b (unescaped c.loop-rest.rest.now) (unescaped c.in-Some.tail.now) c.in-Some.ensures.0 pushed,
-      rw pushed (front-more (vec_items c.args.text.now) (vec_items c.loop-rest.text) (c.in-Some.b ∷ []) c.loop-rest.invariant.1),
+      c.loop-b.invariant.0
+          ∙ laid_more (vec_items c.loop-b.text) (vec_items c.push.new.self) c.in-Some.b (unescaped c.loop-b.rest.now) (unescaped c.in-Some.further.now) next.0 pushed,
+      rw pushed (front-more (vec_items c.args.text.now) (vec_items c.loop-b.text) (c.in-Some.b ∷ []) c.loop-b.invariant.1),
     )
