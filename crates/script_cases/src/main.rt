@@ -6,7 +6,7 @@ use script::numbers::{signed, unsigned};
 use script::words::{cut, next_word, only_word};
 use std::io;
 
-const UNSIGNED: [&[u8]; 11] = [
+const UNSIGNED: &[&[u8]] = &[
     b"",
     b"0",
     b"00",
@@ -20,17 +20,17 @@ const UNSIGNED: [&[u8]; 11] = [
     b"x",
 ];
 
-const SIGNED: [&[u8]; 10] = [
+const SIGNED: &[&[u8]] = &[
     b"", b"0", b"-0", b"+0", b"32767", b"32768", b"-32768", b"-32769", b"--1", b"-",
 ];
 
-const NAMES: [&[u8]; 31] = [
+const NAMES: &[&[u8]] = &[
     b"", b"a", b"%-", b"a%-b", b"%-a", b"%", b"%4", b"%41", b"%4g", b"%zz", b"%00", b"%ff", b"%FF",
     b"%Ff", b"%9a", b"%25", b"@a", b"%40a", b"a@b", b"!~", b"a b", b"a\x1fb", b"a\x7fb", b"a\x80b",
     b"%/0", b"%:0", b"%@0", b"%G0", b"%`0", b"%g0", b"a%4",
 ];
 
-const LINES: [&[u8]; 9] = [
+const LINES: &[&[u8]] = &[
     b"", b"  ", b"a", b"  a b", b"a  b", b" a ", b"ab  ", b"\ta b", b"\t",
 ];
 
