@@ -21,6 +21,7 @@ abbrev pub number_with : ℕ → Option ℕ → List ℕ → Option ℕ
 number_with limit None rest = None
 number_with limit (Some n) rest = number_behind limit n rest
 
+-- a number does not fall with its digits
 value_after-ge : (n : ℕ) (cs : List ℕ) → n ≤ digits_value_after 10 n cs
 value_after-ge n [] = omega arith
 value_after-ge n (c ∷ cs) = omega (arith, value_after-ge (n * 10 + digit_value c) cs)
@@ -32,10 +33,12 @@ with-digit false v limit rest r e = rw e
 with-digit true v limit rest None e = let h = value_after-ge v rest in grind (arith, nat_tests)
 with-digit true v limit rest (Some m) e = let same : m ≡ v = grind (arith, nat_tests) in rw same
 
+-- one digit more
 pub behind_more : (limit n b : ℕ) (rest : List ℕ) (r : Option ℕ) → r ≡ with_digit limit n b →
     number_behind limit n (b ∷ rest) ≡ number_with limit r rest
 behind_more limit n b rest r e = with-digit (is_ascii_digit b) (n * 10 + digit_value b) limit rest r e
 
+-- what `with_digit` gives is below the limit
 some-below : (limit n b m : ℕ) → Some m ≡ with_digit limit n b → m < limit
 some-below limit n b m e = grind (arith, nat_tests)
 

@@ -3,12 +3,14 @@ use Rattle.std.proofs.Common.{◌≡◌, ℕ, zero, suc, ◌≤◌, ◌<◌, Lis
 use Rattle.std.proofs.lemmas.Bool.{eq-eqb, ne_eqb}
 use Rattle.script.specs.Words.{Absent, joined, lines, words}
 
+-- a byte that a list has not is none of its bytes
 absent-head : (b x : ℕ) (s : List ℕ) → Absent b (x ∷ s) → x ≡ b → ⊥
 absent-head b x s never = never 0 (omega arith)
 
 absent-tail : (b x : ℕ) (s : List ℕ) → Absent b (x ∷ s) → Absent b s
 absent-tail b x s never k h = never (suc k) (omega arith)
 
+-- the first of several lines, and the only one
 pub lines-first : (l r : List ℕ) → Absent 10 l → lines (l ++ (10 ∷ r)) ≡ l ∷ lines r
 lines-first [] r never = refl
 lines-first (b ∷ l) r never = rw (ne_eqb b 10 (absent-head 10 b l never), lines-first l r (absent-tail 10 b l never))

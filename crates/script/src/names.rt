@@ -73,7 +73,7 @@ pub fn decode(word: &[u8], text: &mut Vec<u8>) -> Result<(), NameFault>
 {
     match word {
         b"%-" => Ok(()),
-        [] | [b'@', ..] => Err(NameFault::NotAName),
+        [b'@', ..] | [] => Err(NameFault::NotAName),
         _ => {
             let start = text.len();
             let done = decode_bytes(word, text);

@@ -4,7 +4,6 @@ use Rattle.std.proofs.lemmas.Slice.Eq.{text_from_reads, bytes_eq-Decides}
 use Rattle.std.proofs.lemmas.Bool.{ne_eqb, cases_Bool, cond-false}
 use Rattle.script.specs.declared.names.NameFault.{NameFault}
 use Rattle.script.specs.declared.names.NameFault.TheVariants.{NotAName, OutOfMemory}
-use Rattle.script.specs.declared.names.NameFault.TheVariants.{NotAName, OutOfMemory}
 use Rattle.script.specs.Names.{Decoded, Laid, laid, named, unescaped}
 use Rattle.script.proofs.names.decode.Goals as goal
 
@@ -19,6 +18,7 @@ named_other (b ∷ bs) some empty at =
     (λ t. cond-false _ _ _ t ∙ cond-false _ _ _ (ne_eqb b 64 at))
     (cases_Bool (bytes_eq (b ∷ bs) (codes "%-")))
 
+-- the name that was laid
 name-from-laid : (before after : List ℕ) (o : Option (List ℕ)) → laid before o ≡ Some after →
     (name : List ℕ) × (o ≡ Some name) × (after ≡ before ++ name)
 name-from-laid before after None e = cc
@@ -37,12 +37,14 @@ put_back word before after kept (Ok done) err same h back = cc
 put_back word before after kept (Err NotAName) err same h back = (same ∙ h.0, back ∙ h.1)
 put_back word before after kept (Err OutOfMemory) err same h back = back ∙ h
 
+-- a word that begins with @ is no name
 at-sign : (word before : List ℕ) → 1 ≤ length word → get_or word 0 0 ≡ 64 → Decoded word before before (Err NotAName)
 at-sign [] before some e = absurd (omega arith)
 at-sign (b ∷ bs) before some e = rw e (refl, refl)
 
-pub returns-in-empty-2 : goal.returns-in-empty-2
-returns-in-empty-2 c = search (rules, at-sign)
+-- the check finds this and `returns-then-is_err` by itself; they are written so that a wrong `decode` is refused by the fact that fails
+pub returns-in-64 : goal.returns-in-64
+returns-in-64 c = search (rules, at-sign)
 
 pub returns-in-37 : goal.returns-in-37
 returns-in-37 c = (

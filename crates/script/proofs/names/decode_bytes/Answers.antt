@@ -5,19 +5,23 @@ use Rattle.script.specs.declared.names.NameFault.TheVariants.{NotAName, OutOfMem
 use Rattle.script.specs.Names.{Laid, NextByte, consed, laid, unescaped}
 use Rattle.script.proofs.names.decode_bytes.Goals as goal
 
+-- one byte more
 laid_more : (before after : List ℕ) (b : ℕ) (o rest : Option (List ℕ)) → o ≡ consed b rest → after ≡ before ++ (b ∷ []) →
     laid before o ≡ laid after rest
 laid_more before after b o None e f = rw e
 laid_more before after b o (Some bs) e f = rw (e, f, append_assoc)
 
+-- where nothing can be laid there is no name
 none-from-laid : (before : List ℕ) (o : Option (List ℕ)) → laid before o ≡ None → o ≡ None
 none-from-laid before None e = refl
 none-from-laid before (Some bs) e = cc
 
+-- what is laid behind a text leaves it at the front
 front-more : (xs ys zs : List ℕ) → take (length xs) ys ≡ xs → take (length xs) (ys ++ zs) ≡ xs
 front-more xs ys zs e =
     let le : length xs ≤ length ys = omega (arith, simp length-take at (ap length e)) in rw take-append-le e
 
+-- a fault of `next_byte` is the fault of the name
 refused : (word rest before after : List ℕ) (fault : NameFault) → NextByte rest (Err fault) → laid before (unescaped word) ≡ laid after (unescaped rest) →
     take (length before) after ≡ before → Laid word before after (Err fault)
 refused word rest before after NotAName none same front = (none-from-laid before (unescaped word) (same ∙ rw none), front)
