@@ -44,7 +44,7 @@ unescaped (b ∷ (h ∷ [])) = plainly b (unescaped (h ∷ []))
 unescaped (b ∷ (h ∷ (l ∷ rest))) =
     cond (b == 37) (escaped (hex_digit h) (hex_digit l) (unescaped rest)) (plainly b (unescaped (h ∷ (l ∷ rest))))
 
--- the first byte that a written text stands for and a shorter rest for the others; nothing where the text is at its end
+-- the first byte that a written text stands for and a shorter rest for the others; nothing at its end, and a fault where it stands for none
 abbrev pub NextByte : List ℕ → Result (Option (ℕ × Bor (List ℕ))) NameFault → Type 0
 NextByte written (Ok None) = written ≡ []
 NextByte written (Ok (Some next)) =
