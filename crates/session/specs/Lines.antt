@@ -1,13 +1,15 @@
 -- What a line of a script asks for and what is printed for it.
 -- Assumes nothing.
 use Rattle.std.specs.Prelude.{◌≡◌, ℕ, ◌+◌, ◌-◌, ◌^◌, min, Bool, false, cond, List, [], ◌∷◌, ◌++◌, Some, None, Ok, Err, codes, Option, Result, ◌==◌}
+use Rattle.std.specs.Allocator.{alloc_error}
+use Rattle.std.specs.Global.{Vec}
 use Rattle.std.specs.Option.{ok_or}
 use Rattle.std.specs.Str.{bytes_eq}
 use Rattle.script.specs.Names.{named}
 use Rattle.script.specs.Numbers.{number_below}
 use Rattle.script.specs.Words.{words, only_of, behind_prefix}
 use Rattle.transcript.specs.Appends.{Behind}
-use Rattle.transcript.specs.Printed.{builtin_text, element_text, echo_text, not_understood_text}
+use Rattle.transcript.specs.Printed.{builtin_text, element_text, echo_text, not_understood_text, reason_text}
 use Rattle.transcript.specs.declared.answers.Reason.{Reason}
 use Rattle.transcript.specs.declared.answers.Reason.TheVariants.{NoSuchLine, WordCount, NotANumber, NotAName, NotAnEntry}
 use Rattle.type_info.specs.Meaning.{Declaration, by_its_oid, by_its_name, as_array_of, element_name}
@@ -99,15 +101,20 @@ all_printed read (line ∷ ls) = printed (one_more read) line ++ all_printed (on
 abbrev pub Replies : Result (List ℕ) Reason → List ℕ → List ℕ → Result (Unit {0}) Trouble → Type 0
 Replies told before after (Ok done) = (bytes : List ℕ) × (told ≡ Ok bytes) × Behind before bytes after
 Replies told before after (Err (NotUnderstood why)) = (told ≡ Err why) × (after ≡ before)
-Replies told before after (Err OutOfMemory) = Unit {0}
+Replies told before after (Err (OutOfMemory e)) = Unit {0}
 
--- a name read into a buffer, whatever that held before
-abbrev pub NameLaid : List ℕ → List ℕ → Result (Unit {0}) Trouble → Type 0
-NameLaid word after (Ok done) = name_read word ≡ Ok after
-NameLaid word after (Err (NotUnderstood why)) = name_read word ≡ Err why
-NameLaid word after (Err OutOfMemory) = Unit {0}
+-- the name that a word writes, or why it is none
+abbrev pub NameRead : List ℕ → Result (Vec ℕ) Trouble → Type 0
+NameRead word (Ok name) = name_read word ≡ Ok name.items
+NameRead word (Err (NotUnderstood why)) = name_read word ≡ Err why
+NameRead word (Err (OutOfMemory e)) = Unit {0}
 
 -- what becomes of a fault of a name
 abbrev pub name_trouble : NameFault → Trouble
 name_trouble fault.NotAName = NotUnderstood NotAName
-name_trouble fault.OutOfMemory = OutOfMemory
+name_trouble fault.OutOfMemory = OutOfMemory alloc_error
+
+-- how a trouble is told
+abbrev pub trouble_text : Trouble → List ℕ
+trouble_text (NotUnderstood why) = codes "not understood: " ++ reason_text why
+trouble_text (OutOfMemory e) = codes "out of memory"

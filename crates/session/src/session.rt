@@ -9,7 +9,7 @@ ghost use Rattle.transcript.specs.Printed.{closing_text};
 use crate::requests::answer;
 use crate::trouble::Trouble;
 use script::words::{first_line, next_word};
-use std::alloc::{AllocError, Global};
+use std::alloc::AllocError;
 use transcript::answers;
 
 #[derive(Drop)]
@@ -17,28 +17,22 @@ pub struct Session {
     read: u64,
     echoed: u64,
     misread: u64,
-    // the name of the line at hand
-    name: Vec<u8>,
 }
 
 fn is_comment(verb: &[u8]) -> bool
     ensures { result ≡ is_comment verb.now }
 {
-    match verb {
-        [b'#', ..] => true,
-        _ => false,
-    }
+    verb.starts_with(b"#")
 }
 
 impl Session {
-    pub fn new(heap: Global) -> Session
+    pub fn new() -> Session
         ensures { counts_of result ≡ start }
     {
         Session {
             read: 0,
             echoed: 0,
             misread: 0,
-            name: Vec::new(heap),
         }
     }
 
@@ -47,13 +41,13 @@ impl Session {
         ensures prints { Appends (answered self.old.read (reply verb.now (words rest.now))) out.old.items out.new.items result }
         ensures counts { OnOk result (Replied (reply verb.now (words rest.now)) (counts_of self.old) (counts_of self.new)) }
     {
-        match answer(verb, rest, &mut self.name, out) {
+        match answer(verb, rest, out) {
             Ok(()) => Ok(()),
             Err(Trouble::NotUnderstood(why)) => {
                 self.misread = self.misread.saturating_add(1);
                 answers::not_understood(out, self.read, why)
             }
-            Err(Trouble::OutOfMemory) => Err(AllocError),
+            Err(Trouble::OutOfMemory(e)) => Err(e),
         }
     }
 
@@ -71,12 +65,12 @@ impl Session {
         }
         self.echoed = self.echoed.saturating_add(1);
         answers::echo(out, line)?;
-        self.answer_line(verb, rest, out)?;
-        Ok(())
+        self.answer_line(verb, rest, out)
     }
 
     // Carries out line after line until the text is at its end or `enough` bytes are printed, and hands back
     // what is left. However a script is run piece by piece, the same is printed and counted in the end.
+    #[tactic(auto, using(crate::proofs::NoLine::no_bytes))]
     pub fn run<'a>(
         &mut self,
         text: &'a [u8],
@@ -89,10 +83,9 @@ impl Session {
         ensures stops { IfOk result (λ rest. 0 < length rest.now → enough ≤ vec_len out.new) }
     {
         let mut rest = text;
-        while out.len() < enough {
-            let Some((line, further)) = first_line(rest) else {
-                break;
-            };
+        while out.len() < enough
+            && let Some((line, further)) = first_line(rest)
+        {
             self.line(line, out)?;
             rest = further;
         }

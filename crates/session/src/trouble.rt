@@ -1,17 +1,32 @@
 // Why a line has no answer.
-ghost use Rattle.std.specs.Prelude.{◌≡◌};
-ghost use Rattle.session.specs.Lines.{name_trouble};
+ghost use Rattle.std.specs.Prelude.{◌≡◌, Some};
+ghost use Rattle.session.specs.Lines.{name_trouble, trouble_text};
 ghost use Rattle.session.specs.declared.trouble.Trouble.TheVariants.{NotUnderstood, OutOfMemory};
 
 use script::names::NameFault;
 use std::alloc::AllocError;
+use std::error::Error;
+use std::fmt;
 use transcript::answers::Reason;
 
-#[derive(Clone, Copy)]
+#[derive(Clone, Copy, PartialEq, Eq, Debug)]
 pub enum Trouble {
     NotUnderstood(Reason),
-    OutOfMemory,
+    OutOfMemory(AllocError),
 }
+
+impl fmt::Display for Trouble {
+    ghost output = { λ trouble. Some (trouble_text trouble) };
+
+    fn fmt<W: fmt::Write>(&self, f: &mut fmt::Formatter<W>) -> fmt::Result {
+        match self {
+            Trouble::NotUnderstood(why) => write!(f, "not understood: {why}"),
+            Trouble::OutOfMemory(_) => write!(f, "out of memory"),
+        }
+    }
+}
+
+impl Error for Trouble {}
 
 impl From<Reason> for Trouble {
     ghost from_gives = { λ why r. r ≡ NotUnderstood why };
@@ -27,15 +42,15 @@ impl From<NameFault> for Trouble {
     fn from(fault: NameFault) -> Trouble {
         match fault {
             NameFault::NotAName => Trouble::NotUnderstood(Reason::NotAName),
-            NameFault::OutOfMemory => Trouble::OutOfMemory,
+            NameFault::OutOfMemory => Trouble::OutOfMemory(AllocError),
         }
     }
 }
 
 impl From<AllocError> for Trouble {
-    ghost from_gives = { λ e r. r ≡ OutOfMemory };
+    ghost from_gives = { λ e r. r ≡ OutOfMemory e };
 
-    fn from(_e: AllocError) -> Trouble {
-        Trouble::OutOfMemory
+    fn from(e: AllocError) -> Trouble {
+        Trouble::OutOfMemory(e)
     }
 }

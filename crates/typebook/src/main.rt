@@ -12,22 +12,18 @@ use std::{env, fs, io};
 // Where this much has been printed it is written out.
 const ENOUGH: usize = 65536;
 
-fn read_file(rt: &HostRuntime, path: &str) -> anyhow::Result<Vec<u8>> {
-    match fs::read(rt, path) {
-        Ok(text) => Ok(text),
-        Err(e) => {
-            eprintln!(rt; "typebook: cannot read {path}: {e}")?;
-            Err(e.into())
-        }
-    }
+fn read_input(rt: &HostRuntime) -> io::Result<Vec<u8>> {
+    let mut text = Vec::new(rt.alloc());
+    rt.stdin().read_to_end(&mut text)?;
+    Ok(text)
 }
 
-fn read_input(rt: &HostRuntime) -> anyhow::Result<Vec<u8>> {
-    let mut text = Vec::new(rt.alloc());
-    match rt.stdin().read_to_end(&mut text) {
-        Ok(_) => Ok(text),
+// The text that was read from somewhere. Where it cannot be read, that is said.
+fn text_of(rt: &HostRuntime, from: &str, read: io::Result<Vec<u8>>) -> anyhow::Result<Vec<u8>> {
+    match read {
+        Ok(text) => Ok(text),
         Err(e) => {
-            eprintln!(rt; "typebook: cannot read standard input: {e}")?;
+            eprintln!(rt; "typebook: cannot read {from}: {e}")?;
             Err(e.into())
         }
     }
@@ -37,8 +33,8 @@ fn read_script(rt: &HostRuntime) -> anyhow::Result<Vec<u8>> {
     let mut args = env::args(rt)?;
     let _program = args.next();
     match (args.next(), args.next()) {
-        (None, _) => read_input(rt),
-        (Some(path), None) => read_file(rt, path.as_str()),
+        (None, _) => text_of(rt, "standard input", read_input(rt)),
+        (Some(path), None) => text_of(rt, path.as_str(), fs::read(rt, path.as_str())),
         (Some(_), Some(_)) => {
             eprintln!(rt; "usage: typebook [SCRIPT]")?;
             Err(anyhow!("too many arguments"))
@@ -57,7 +53,7 @@ fn write_out(rt: &HostRuntime, out: &mut Vec<u8>) -> io::Result<()>
 
 // Carries out every line and tells whether all were understood.
 fn run(rt: &HostRuntime, text: &[u8]) -> anyhow::Result<bool> {
-    let mut session = Session::new(rt.alloc());
+    let mut session = Session::new();
     let mut out = Vec::new(rt.alloc());
     let mut rest = text;
     while !rest.is_empty() {

@@ -7,7 +7,7 @@ use std::io::Write;
 
 fn show(rt: &HostRuntime, path: &str) -> anyhow::Result<()> {
     let text = fs::read(rt, path)?;
-    let mut session = Session::new(rt.alloc());
+    let mut session = Session::new();
     let mut out = Vec::new(rt.alloc());
     let _rest = session.run(text.as_slice(), usize::MAX, &mut out)?;
     session.close(&mut out)?;

@@ -1,0 +1,3 @@
+pub mod NoLine
+pub mod Prefix
+pub mod Verbs
