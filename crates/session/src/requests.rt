@@ -27,7 +27,7 @@ pub fn builtin(rest: &[u8], out: &mut Vec<u8>) -> Result<(), Trouble>
 fn read_name(word: &[u8], alloc: Global) -> Result<Vec<u8>, Trouble>
     ensures { NameRead word.now result }
 {
-    let mut name = Vec::new(alloc);
+    let mut name = Vec::with_capacity(alloc, word.len())?;
     decode(word, &mut name)?;
     Ok(name)
 }

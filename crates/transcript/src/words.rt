@@ -8,11 +8,15 @@ ghost use Rattle.transcript.specs.Appends.{Appends};
 use std::alloc::AllocError;
 use std::fmt;
 
+// The room that most answers fit in.
+const USUAL: usize = 64;
+
 // Lays the text of a value behind what was printed before.
 pub(crate) fn print<D: fmt::Display + Drop>(out: &mut Vec<u8>, value: D) -> Result<(), AllocError>
     ensures { IfSome (D.output value) (λ text. Appends text out.old.items out.new.items result) }
 {
-    let text = value.to_string(*out.allocator())?;
+    let mut text = String::with_capacity(*out.allocator(), USUAL)?;
+    write!(text, "{value}")?;
     out.extend_from_slice(text.as_bytes())
 }
 
