@@ -1,6 +1,6 @@
 -- What a line of a script asks for and what is printed for it.
 -- Assumes nothing.
-use Rattle.std.specs.Prelude.{◌≡◌, ℕ, ◌+◌, ◌-◌, ◌^◌, min, Bool, false, cond, List, [], ◌∷◌, ◌++◌, Some, None, Ok, Err, codes, Option, Result, ◌==◌}
+use Rattle.std.specs.Prelude.{◌≡◌, ℕ, ◌+◌, ◌-◌, ◌^◌, min, Bool, false, if◌then◌else◌, List, [], ◌∷◌, ◌++◌, Some, None, Ok, Err, codes, Option, Result, ◌==◌}
 use Rattle.std.specs.Allocator.{alloc_error}
 use Rattle.std.specs.Global.{Vec}
 use Rattle.std.specs.Option.{ok_or}
@@ -71,9 +71,9 @@ element_reply ws = onward (only_word ws) entry_reply
 -- what a line answers, by its first word and the words behind that
 abbrev pub reply : List ℕ → List (List ℕ) → Result (List ℕ) Reason
 reply verb ws =
-    cond (bytes_eq verb (codes "builtin")) (builtin_reply ws)
-    (cond (bytes_eq verb (codes "builtin-name")) (builtin_name_reply ws)
-    (cond (bytes_eq verb (codes "element")) (element_reply ws) (Err NoSuchLine)))
+    if bytes_eq verb (codes "builtin") then builtin_reply ws
+    else (if bytes_eq verb (codes "builtin-name") then builtin_name_reply ws
+    else (if bytes_eq verb (codes "element") then element_reply ws else Err NoSuchLine))
 
 -- a line whose first word begins with # (35) is a comment
 abbrev pub is_comment : List ℕ → Bool
@@ -87,7 +87,7 @@ answered number (Err why) = not_understood_text number why
 -- what is printed for a line, by its number and its words: nothing for a blank line and for a comment
 abbrev pub printed_for : ℕ → List ℕ → List (List ℕ) → List ℕ
 printed_for number line [] = []
-printed_for number line (verb ∷ ws) = cond (is_comment verb) [] (echo_text line ++ answered number (reply verb ws))
+printed_for number line (verb ∷ ws) = if is_comment verb then [] else echo_text line ++ answered number (reply verb ws)
 
 abbrev pub printed : ℕ → List ℕ → List ℕ
 printed number line = printed_for number line (words line)

@@ -7,6 +7,7 @@ ghost use Rattle.type_info.specs.Meaning.{entry_of, found, kind_of};
 
 use crate::words::{Shown, print};
 use std::alloc::AllocError;
+use std::error::Error;
 use std::fmt;
 use type_info::builtin::{BuiltIn, BuiltInKind};
 
@@ -33,6 +34,8 @@ impl fmt::Display for Reason {
         })
     }
 }
+
+impl Error for Reason {}
 
 #[derive(Clone, Copy)]
 struct TypeKind(BuiltInKind);
