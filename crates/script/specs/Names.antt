@@ -50,7 +50,7 @@ NextByte written (Ok None) = written ≡ []
 NextByte written (Ok (Some next)) =
     (unescaped written ≡ consed next.0 (unescaped next.1.now)) × (length next.1.now < length written)
 NextByte written (Err NotAName) = unescaped written ≡ None
-NextByte written (Err OutOfMemory) = ⊥
+NextByte written (Err (OutOfMemory e)) = ⊥
 
 -- what a text holds with the bytes of a name behind it, if there is a name
 abbrev pub laid : List ℕ → Option (List ℕ) → Option (List ℕ)
@@ -60,13 +60,13 @@ laid before (Some name) = Some (before ++ name)
 -- how a fault is told
 abbrev pub fault_text : NameFault → List ℕ
 fault_text NotAName = codes "not a name"
-fault_text OutOfMemory = codes "out of memory"
+fault_text (OutOfMemory e) = codes "out of memory"
 
 -- the bytes that a text writes laid behind what another holds; a fault may leave some of them there
 abbrev pub Laid : List ℕ → List ℕ → List ℕ → Result (Unit {0}) NameFault → Type 0
 Laid written before after (Ok done) = laid before (unescaped written) ≡ Some after
 Laid written before after (Err NotAName) = (unescaped written ≡ None) × (take (length before) after ≡ before)
-Laid written before after (Err OutOfMemory) = take (length before) after ≡ before
+Laid written before after (Err (OutOfMemory e)) = take (length before) after ≡ before
 
 -- the name that a word writes; a word that begins with @ (64) is none, nor is one without a byte
 abbrev pub named : List ℕ → Option (List ℕ)
@@ -77,7 +77,7 @@ named (b ∷ bs) = cond (bytes_eq (b ∷ bs) (codes "%-")) (Some []) (cond (b ==
 abbrev pub Decoded : List ℕ → List ℕ → List ℕ → Result (Unit {0}) NameFault → Type 0
 Decoded word before after (Ok done) = (name : List ℕ) × (named word ≡ Some name) × (after ≡ before ++ name)
 Decoded word before after (Err NotAName) = (named word ≡ None) × (after ≡ before)
-Decoded word before after (Err OutOfMemory) = after ≡ before
+Decoded word before after (Err (OutOfMemory e)) = after ≡ before
 
 -- the byte of a hexadecimal digit, in upper case
 abbrev pub hex_upper : ℕ → ℕ

@@ -1,5 +1,6 @@
 // Names with %HH for any byte and %- for the empty name.
 ghost use Rattle.std.specs.Prelude.{◌≡◌, Some};
+ghost use Rattle.std.specs.declared.alloc.AllocError.{AllocError};
 ghost use Rattle.script.specs.declared.names.NameFault.TheVariants.{OutOfMemory};
 ghost use Rattle.script.specs.Names.{Decoded, Laid, NextByte, ShownReadsBack, fault_text, hex_byte, hex_digit};
 
@@ -11,7 +12,7 @@ use std::fmt;
 #[derive(Clone, Copy, PartialEq, Eq, Debug)]
 pub enum NameFault {
     NotAName,
-    OutOfMemory,
+    OutOfMemory(AllocError),
 }
 
 impl fmt::Display for NameFault {
@@ -20,7 +21,7 @@ impl fmt::Display for NameFault {
     fn fmt<W: fmt::Write>(&self, f: &mut fmt::Formatter<W>) -> fmt::Result {
         match self {
             NameFault::NotAName => write!(f, "not a name"),
-            NameFault::OutOfMemory => write!(f, "out of memory"),
+            NameFault::OutOfMemory(_) => write!(f, "out of memory"),
         }
     }
 }
@@ -28,18 +29,18 @@ impl fmt::Display for NameFault {
 impl Error for NameFault {}
 
 impl From<AllocError> for NameFault {
-    ghost from_gives = { λ e r. r ≡ OutOfMemory };
+    ghost from_gives = { λ e r. r ≡ OutOfMemory e };
 
-    fn from(_e: AllocError) -> NameFault {
-        NameFault::OutOfMemory
+    fn from(e: AllocError) -> NameFault {
+        NameFault::OutOfMemory(e)
     }
 }
 
 impl<T: Drop> From<AllocFailed<T>> for NameFault {
-    ghost from_gives = { λ e r. r ≡ OutOfMemory };
+    ghost from_gives = { λ e r. (a : AllocError) × (r ≡ OutOfMemory a) };
 
-    fn from(_e: AllocFailed<T>) -> NameFault {
-        NameFault::OutOfMemory
+    fn from(e: AllocFailed<T>) -> NameFault {
+        NameFault::OutOfMemory(AllocError::from(e))
     }
 }
 

@@ -1,7 +1,6 @@
 -- What a line of a script asks for and what is printed for it.
 -- Assumes nothing.
 use Rattle.std.specs.Prelude.{◌≡◌, ℕ, ◌+◌, ◌-◌, ◌^◌, min, Bool, false, if◌then◌else◌, List, [], ◌∷◌, ◌++◌, Some, None, Ok, Err, codes, Option, Result, ◌==◌}
-use Rattle.std.specs.Allocator.{alloc_error}
 use Rattle.std.specs.Global.{Vec}
 use Rattle.std.specs.Option.{ok_or}
 use Rattle.std.specs.Str.{bytes_eq}
@@ -112,7 +111,7 @@ NameRead word (Err (OutOfMemory e)) = Unit {0}
 -- what becomes of a fault of a name
 abbrev pub name_trouble : NameFault → Trouble
 name_trouble fault.NotAName = NotUnderstood NotAName
-name_trouble fault.OutOfMemory = OutOfMemory alloc_error
+name_trouble (fault.OutOfMemory e) = OutOfMemory e
 
 -- how a trouble is told
 abbrev pub trouble_text : Trouble → List ℕ

@@ -42,7 +42,7 @@ impl From<NameFault> for Trouble {
     fn from(fault: NameFault) -> Trouble {
         match fault {
             NameFault::NotAName => Trouble::NotUnderstood(Reason::NotAName),
-            NameFault::OutOfMemory => Trouble::OutOfMemory(AllocError),
+            NameFault::OutOfMemory(e) => Trouble::OutOfMemory(e),
         }
     }
 }

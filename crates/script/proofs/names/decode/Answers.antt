@@ -35,7 +35,7 @@ put_back : (word before after kept : List ℕ) (r : Result (Unit {0}) NameFault)
     Laid word before after r → kept ≡ take (length before) after → Decoded word before kept r
 put_back word before after kept (Ok done) err same h back = cc
 put_back word before after kept (Err NotAName) err same h back = (same ∙ h.0, back ∙ h.1)
-put_back word before after kept (Err OutOfMemory) err same h back = back ∙ h
+put_back word before after kept (Err (OutOfMemory e)) err same h back = back ∙ h
 
 -- a word that begins with @ is no name
 at-sign : (word before : List ℕ) → 1 ≤ length word → get_or word 0 0 ≡ 64 → Decoded word before before (Err NotAName)

@@ -25,7 +25,7 @@ front-more xs ys zs e =
 refused : (word rest before after : List ℕ) (fault : NameFault) → NextByte rest (Err fault) → laid before (unescaped word) ≡ laid after (unescaped rest) →
     take (length before) after ≡ before → Laid word before after (Err fault)
 refused word rest before after NotAName none same front = (none-from-laid before (unescaped word) (same ∙ rw none), front)
-refused word rest before after OutOfMemory never same front = absurd never
+refused word rest before after (OutOfMemory e) never same front = absurd never
 
 pub returns-in_err-b : goal.returns-in_err-b
 returns-in_err-b c =
