@@ -1,4 +1,4 @@
-use Rattle.std.proofs.Common.{◌∙◌}
+use Rattle.std.proofs.Common.{arith}
 use Rattle.std.proofs.lemmas.Bool.Decides.{Decides-at}
 use Rattle.catalog.specs.Meaning.{row_meaning}
 use Rattle.offers.proofs.Alike.{row_alike}
@@ -6,5 +6,4 @@ use Rattle.offers.proofs.Decided.{same-row-decides}
 use Rattle.offers.proofs.same.same_row.Goals as goal
 
 pub returns-clause-decides : goal.returns-clause-decides
-returns-clause-decides c =
-    Decides-at _ _ (c.eq.ensures ∙ row_alike c.args.a.now c.args.b.now) (same-row-decides (row_meaning c.args.a.now) (row_meaning c.args.b.now))
+returns-clause-decides c = Decides-at _ _ (grind (arith, row_alike)) (same-row-decides (row_meaning c.args.a.now) (row_meaning c.args.b.now))
