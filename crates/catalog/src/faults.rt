@@ -52,7 +52,7 @@ impl CatalogFault {
         match *self {
             CatalogFault::NoAllowance { round } => Told {
                 number: 5,
-                place: round as u32,
+                place: u32::from(round),
                 layer: Layer::Catalog,
                 rounds: round.saturating_sub(1),
             },

@@ -4,16 +4,12 @@ use Rattle.std.specs.Prelude.{◌≡◌, ℕ, if◌then◌else◌, List, [], ◌
 use Rattle.script.specs.Words.{words}
 use Rattle.transcript.specs.declared.answers.Reason.{Reason}
 use Rattle.session.specs.Lines.{reply, is_comment, one_more}
-use Rattle.session.specs.declared.session.Session.{Session}
 
 -- lines read, lines echoed, lines not understood
 pub record Counts : Type 0 where
   pub read : ℕ
   pub echoed : ℕ
   pub misread : ℕ
-
-abbrev pub counts_of : Session → Counts
-counts_of s = record { read = s.read; echoed = s.echoed; misread = s.misread }
 
 abbrev pub start : Counts
 start = record { read = 0; echoed = 0; misread = 0 }

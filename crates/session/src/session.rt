@@ -1,7 +1,7 @@
 // A run of a script: its lines one by one, and how many there were.
 ghost use Rattle.std.specs.Prelude.{◌≡◌, ◌<◌, ◌≤◌, ◌++◌, length, IfOk, vec_len, OnOk, ◌==◌};
 ghost use Rattle.script.specs.Words.{lines, words};
-ghost use Rattle.session.specs.Counts.{Replied, all_counted, counted, counts_of, start};
+ghost use Rattle.session.specs.Counts.{Replied, all_counted, counted, start};
 ghost use Rattle.session.specs.Lines.{all_printed, answered, is_comment, one_more, printed, reply};
 ghost use Rattle.transcript.specs.Appends.{Appends};
 ghost use Rattle.transcript.specs.Printed.{closing_text};
@@ -10,6 +10,7 @@ use crate::requests::answer;
 use crate::trouble::Trouble;
 use script::words::{first_line, next_word};
 use std::alloc::AllocError;
+use std::marker::Model;
 use transcript::answers;
 
 #[derive(Drop)]
@@ -17,6 +18,15 @@ pub struct Session {
     read: u64,
     echoed: u64,
     misread: u64,
+}
+
+// A session is known by what it has counted.
+impl Model for Session {
+    ghost use Rattle.session.specs.Counts.{Counts};
+
+    ghost Value = { Counts };
+
+    ghost view = { λ s. record { read = s.read; echoed = s.echoed; misread = s.misread } };
 }
 
 fn is_comment(verb: &[u8]) -> bool
@@ -27,7 +37,7 @@ fn is_comment(verb: &[u8]) -> bool
 
 impl Session {
     pub fn new() -> Session
-        ensures { counts_of result ≡ start }
+        ensures { result ≡ start }
     {
         Session {
             read: 0,
@@ -39,7 +49,7 @@ impl Session {
     // Prints the answer to a line that was echoed.
     fn answer_line(&mut self, verb: &[u8], rest: &[u8], out: &mut Vec<u8>) -> Result<(), AllocError>
         ensures prints { Appends (answered self.old.read (reply verb.now (words rest.now))) out.old.items out.new.items result }
-        ensures counts { OnOk result (Replied (reply verb.now (words rest.now)) (counts_of self.old) (counts_of self.new)) }
+        ensures counts { OnOk result (Replied (reply verb.now (words rest.now)) self.old self.new) }
     {
         match answer(verb, rest, out) {
             Ok(()) => Ok(()),
@@ -54,7 +64,7 @@ impl Session {
     // Carries out one line and prints what it did: nothing for a blank line and for a comment.
     pub fn line(&mut self, line: &[u8], out: &mut Vec<u8>) -> Result<(), AllocError>
         ensures prints { Appends (printed (one_more self.old.read) line.now) out.old.items out.new.items result }
-        ensures counts { OnOk result (counts_of self.new ≡ counted (counts_of self.old) (words line.now)) }
+        ensures counts { OnOk result (self.new ≡ counted self.old (words line.now)) }
     {
         self.read = self.read.saturating_add(1);
         let Some((verb, rest)) = next_word(line) else {
@@ -78,7 +88,7 @@ impl Session {
         out: &mut Vec<u8>,
     ) -> Result<&'a [u8], AllocError>
         ensures prints { IfOk result (λ rest. out.new.items ++ all_printed self.new.read (lines rest.now) ≡ out.old.items ++ all_printed self.old.read (lines text.now)) }
-        ensures counts { IfOk result (λ rest. all_counted (counts_of self.new) (lines rest.now) ≡ all_counted (counts_of self.old) (lines text.now)) }
+        ensures counts { IfOk result (λ rest. all_counted self.new (lines rest.now) ≡ all_counted self.old (lines text.now)) }
         ensures forward { IfOk result (λ rest. vec_len out.old < enough → 0 < length text.now → length rest.now < length text.now) }
         ensures stops { IfOk result (λ rest. 0 < length rest.now → enough ≤ vec_len out.new) }
     {

@@ -89,7 +89,7 @@ impl<'m, K: Key, V: Copy> Lookup<'m, K, V> {
     {}
 }
 
-// The slots of a map that grows. What keeps them is the owner's to state, in a ghost field of its own.
+// The slots of a map that grows. What keeps them is the owner's to state, as the invariant of its own model.
 #[derive(Drop)]
 pub struct Map<'a, S, V> {
     pub slots: &'a mut [Entry<S, V>],

@@ -23,7 +23,7 @@ impl<'a> Model for Text<'a> {
 }
 
 impl<'a> Text<'a> {
-    // A text without bytes, whatever lay in the slots before.
+    // A text without bytes, whatever lay in them before.
     pub fn new(bytes: &'a mut [u8]) -> Text<'a>
         ensures { result ≡ record { text = []; spare = bytes.old } }
     {

@@ -1,4 +1,4 @@
-// What a script's run prints, laid byte by byte behind what was printed before.
+// What a script's run prints, laid behind what was printed before.
 #![tactic(auto)]
 
 pub mod answers;

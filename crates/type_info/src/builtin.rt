@@ -16,7 +16,7 @@ pub enum BuiltInKind {
 }
 
 // A settled type that every catalog knows: its OID, its name and its kind.
-#[derive(Clone, Copy, PartialEq, Eq, Debug)]
+#[derive(Clone, Copy, Debug)]
 pub struct BuiltIn(
     pub(crate) Oid,
     pub(crate) &'static [u8],

@@ -5,7 +5,7 @@ ghost use Rattle.type_info.specs.Meaning.{as_array_of, by_its_name, by_its_oid, 
 
 use crate::oid::Oid;
 
-#[derive(Clone, Copy, PartialEq, Eq, Debug)]
+#[derive(Clone, Copy, Debug)]
 pub enum Declared<'a> {
     Oid(Oid),
     Name(&'a [u8]),
