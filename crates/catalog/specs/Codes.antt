@@ -1,6 +1,6 @@
 -- The code bytes of a row, as PostgreSQL's page on pg_type lists them.
 -- Assumes nothing.
-use Rattle.std.specs.Prelude.{◌≡◌, ℕ, Bool, true, false, ◌||◌, List, [], ◌∷◌, Ok, Err, Result, codes, ◌==◌}
+use Rattle.std.specs.Prelude.{◌≡◌, ℕ, Bool, true, false, ◌||◌, List, [], ◌∷◌, ◌++◌, Ok, Err, Result, codes, decimal, ◌==◌}
 use Rattle.catalog.specs.declared.codes.TypType.{TypType}
 use Rattle.catalog.specs.declared.codes.TypType.TheVariants as t
 use Rattle.catalog.specs.declared.codes.UnknownCode.{UnknownCode}
@@ -53,3 +53,7 @@ TypTypeRead = CodeRead typtype_byte typtypes
 
 abbrev pub TypCategoryRead : ℕ → Result TypCategory UnknownCode → Type 0
 TypCategoryRead = CodeRead typcategory_byte typcategories
+
+-- how a byte that is no code is told
+abbrev pub unknown_text : UnknownCode → List ℕ
+unknown_text code = codes "unknown code " ++ decimal code.0

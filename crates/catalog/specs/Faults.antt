@@ -1,6 +1,6 @@
 -- Number, place, layer and rounds of each refusal of a catalog.
 -- Assumes nothing.
-use Rattle.std.specs.Prelude.{ℕ, ◌-◌}
+use Rattle.std.specs.Prelude.{ℕ, ◌-◌, List, ◌++◌, codes, decimal}
 use Rattle.catalog.specs.declared.faults.CatalogFault.{CatalogFault}
 use Rattle.catalog.specs.declared.faults.CatalogFault.TheVariants.{NoAllowance, BreaksLimit, Contradicts, Full}
 use Rattle.catalog.specs.declared.faults.HeldIn.{HeldIn}
@@ -23,3 +23,16 @@ fault_told (NoAllowance round) = record { number = 5; place = round; layer = lay
 fault_told (BreaksLimit of) = addition_told 11 of.0
 fault_told (Contradicts of) = addition_told 12 of.0
 fault_told (Full table) = addition_told 13 (position_of table)
+
+-- how a table and a fault are told
+abbrev pub table_text : HeldIn → List ℕ
+table_text Rows = codes "rows"
+table_text Names = codes "names"
+table_text Parts = codes "parts"
+table_text Columns = codes "columns"
+
+abbrev pub fault_text : CatalogFault → List ℕ
+fault_text (NoAllowance round) = codes "no allowance for round " ++ decimal round
+fault_text (BreaksLimit of) = decimal of.0 ++ codes " breaks a limit"
+fault_text (Contradicts of) = decimal of.0 ++ codes " contradicts what is held"
+fault_text (Full table) = codes "no room among the " ++ table_text table

@@ -1,5 +1,6 @@
 // The two code bytes of a row of pg_type.
-ghost use Rattle.catalog.specs.Codes.{TypCategoryRead, TypTypeRead};
+ghost use Rattle.std.specs.Prelude.{Some};
+ghost use Rattle.catalog.specs.Codes.{TypCategoryRead, TypTypeRead, unknown_text};
 
 use std::error::Error;
 use std::fmt;
@@ -83,6 +84,8 @@ impl TryFrom<u8> for TypCategory {
 }
 
 impl fmt::Display for UnknownCode {
+    ghost output = { λ code. Some (unknown_text code) };
+
     fn fmt<W: fmt::Write>(&self, f: &mut fmt::Formatter<W>) -> fmt::Result {
         write!(f, "unknown code {}", self.0)
     }

@@ -1,6 +1,6 @@
 // What a catalog refuses, and what each refusal tells.
-ghost use Rattle.std.specs.Prelude.{◌≡◌};
-ghost use Rattle.catalog.specs.Faults.{addition_told, fault_told};
+ghost use Rattle.std.specs.Prelude.{◌≡◌, Some};
+ghost use Rattle.catalog.specs.Faults.{addition_told, fault_text, fault_told, table_text};
 
 use std::error::Error;
 use std::fmt;
@@ -64,6 +64,8 @@ impl CatalogFault {
 }
 
 impl fmt::Display for HeldIn {
+    ghost output = { λ table. Some (table_text table) };
+
     fn fmt<W: fmt::Write>(&self, f: &mut fmt::Formatter<W>) -> fmt::Result {
         f.write_str(match self {
             HeldIn::Rows => "rows",
@@ -75,6 +77,8 @@ impl fmt::Display for HeldIn {
 }
 
 impl fmt::Display for CatalogFault {
+    ghost output = { λ fault. Some (fault_text fault) };
+
     fn fmt<W: fmt::Write>(&self, f: &mut fmt::Formatter<W>) -> fmt::Result {
         match self {
             CatalogFault::NoAllowance { round } => write!(f, "no allowance for round {round}"),

@@ -1,5 +1,5 @@
 // A catalog by its meaning: rounds that cost an allowance, and the questions that an open round allows.
-ghost use Rattle.std.specs.Prelude.{◌≡◌, IfSome, Some, MatchResult};
+ghost use Rattle.std.specs.Prelude.{◌≡◌, IfSome, Some, MatchResult, codes};
 ghost use Rattle.catalog.specs.Catalog.{Catalog, Grows, Laws, Opened, Shut};
 ghost use Rattle.catalog.specs.Meaning.{column_told, oid_told, row_meaning, row_told};
 
@@ -14,6 +14,8 @@ use type_info::oid::{AttributeNumber, Oid};
 pub struct NoAllowance;
 
 impl fmt::Display for NoAllowance {
+    ghost output = { λ _. Some (codes "no round is left in the allowance") };
+
     fn fmt<W: fmt::Write>(&self, f: &mut fmt::Formatter<W>) -> fmt::Result {
         f.write_str("no round is left in the allowance")
     }

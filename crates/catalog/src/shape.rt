@@ -1,5 +1,5 @@
 // The shape of a row: what kind of type it tells of, and the OIDs that this kind needs.
-ghost use Rattle.std.specs.Prelude.{◌≡◌};
+ghost use Rattle.std.specs.Prelude.{◌≡◌, Some, codes};
 ghost use Rattle.catalog.specs.Shape.{bytes_shape, codes_shape, links_of, shape_read};
 
 use crate::codes::{TypCategory, TypType, UnknownCode};
@@ -37,6 +37,8 @@ impl From<UnknownCode> for Malformed {
 }
 
 impl fmt::Display for Malformed {
+    ghost output = { λ _. Some (codes "the row is malformed") };
+
     fn fmt<W: fmt::Write>(&self, f: &mut fmt::Formatter<W>) -> fmt::Result {
         f.write_str("the row is malformed")
     }
