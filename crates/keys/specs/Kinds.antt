@@ -1,8 +1,8 @@
 -- The laws of the three kinds of key: a test on what they stand for decides whether two are the same, and a text that
 -- grows at its end leaves what its stored names stand for.
 -- Assumes nothing.
-use Rattle.std.specs.Prelude.{◌≡◌, ℕ, ◌≤◌, List, ◌++◌, length, Decides, ◌==◌, nat_eq, refl}
-use Rattle.std.proofs.Common.{arith, length-drop}
+use Rattle.std.specs.Prelude.{◌≡◌, ℕ, ◌≤◌, List, ◌++◌, length, take, drop, Decides, ◌==◌, nat_eq, refl}
+use Rattle.std.proofs.Common.{ap, ◌∙◌, arith, length-drop}
 use Rattle.std.specs.Ordering.{int_eq}
 use Rattle.std.specs.Str.{bytes_eq}
 use Rattle.std.proofs.lemmas.Slice.Eq.{bytes_eq-Decides}
@@ -27,7 +27,8 @@ pair-laws = record { tells = same-pair; grows = λ text more s l. refl }
 -- a text that grows at its end keeps the bytes under each span within it
 pub span-grows : (text more : List ℕ) (s : Span) → span_end s ≤ length text → span_bytes (text ++ more) s ≡ span_bytes text s
 span-grows text more s l =
-    grind (arith, drop-append-le, take-append-le, length-drop)
+    ap (take s.length) (drop-append-le s.start text more (omega arith))
+    ∙ take-append-le s.length (drop s.start text) more (omega (arith, length-drop s.start text))
 
 pub bytes_laws : Laws span_bytes bytes_eq span_end
 bytes_laws = record { tells = bytes_eq-Decides; grows = span-grows }
