@@ -1,13 +1,13 @@
 -- What `intern` leaves where it adds a name. Assumes nothing.
-use Rattle.std.proofs.Common.{ℕ, List, length, Some, refl, ap, ◌∙◌, cond, Option}
+use Rattle.std.proofs.Common.{◌≡◌, ℕ, List, length, Some, refl, ap, ◌∙◌, cond, arith, length-append, length-drop, Option}
 use Rattle.std.specs.Str.{bytes_eq}
 use Rattle.keys.specs.Senses.{bytes_digest}
 use Rattle.keys.specs.Spans.{span_bytes, span_end}
 use Rattle.keys.specs.declared.span.Span.{Span}
 use Rattle.slots.specs.declared.map.Stop.TheVariants.{Gap}
 use Rattle.slots.specs.Slots.{Entry, Kept, Told, Free, Added, Steady}
-use Rattle.slots.specs.Text.{Laid, LentText}
-use Rattle.indexes.specs.Known.{by_name, known, HasRoom, Interned, Names}
+use Rattle.slots.specs.Text.{Laid, LentText, lent}
+use Rattle.indexes.specs.Known.{by_name, known, GainedName, HasRoom, Interned, Names}
 
 module _ {V : Type 0} where
   -- a search for a name stopped at an empty slot, and then the name was laid behind the text
@@ -25,11 +25,21 @@ module _ {V : Type 0} where
     pub still_free : Free (span_bytes after.text) bytes_digest t.slots name slot
     still_free = rw grown.laid.text (grown.steady.free name slot ((grown.looked, grown.told.0), grown.told.1))
 
+    still_lent : lent after ≡ lent t.text
+    still_lent = rw (grown.laid.text, grown.laid.spare) (omega (arith, grown.laid.room.lent, length-append t.text.text name, length-drop (length name) t.text.spare))
+
     pub interned :
         (fs : List (Entry Span V)) (v : V) → Added bytes_eq (span_bytes after.text) bytes_digest t.slots name v fs →
-        Interned bytes_eq (known t) name v (HasRoom t (length name)) (Some v) (by_name after.text fs)
-    interned fs v added = (
-      λ q. added.holds q ∙ ap (λ (o : Option V). cond (bytes_eq name q) (Some v) o) (ap (λ (text : List ℕ). by_name text t.slots q) grown.laid.text ∙ grown.steady.holds q),
-      λ _. (refl, (grown.told.2, grown.laid.room)),
-      λ w some. cc grown.told.3,
+        let u : Names V = record { text = after; slots = fs } in
+        Interned (known t name) v (HasRoom t (length name)) (GainedName t name v u) (u ≡ t) (Some v)
+    interned fs v added = rw grown.told.3 (
+      refl,
+      (grown.told.2, grown.laid.room),
+      record {
+        knows = λ q. added.holds q ∙ ap (λ (o : Option V). cond (bytes_eq name q) (Some v) o) (ap (λ (text : List ℕ). by_name text t.slots q) grown.laid.text ∙ grown.steady.holds q);
+        count = added.count;
+        size = added.size;
+        text = grown.laid.text;
+        lent = still_lent;
+      },
     )

@@ -1,7 +1,7 @@
 // Values by name. The names lie in a text of the table's own.
-ghost use Rattle.std.specs.Prelude.{◌≡◌, ℕ, List, length, None};
-ghost use Rattle.std.specs.Str.{bytes_eq};
-ghost use Rattle.indexes.specs.Known.{HasRoom, Interned, known, looks_by_name};
+ghost use Rattle.std.specs.Prelude.{◌≡◌, ℕ, List, [], length, None};
+ghost use Rattle.indexes.specs.Known.{GainedName, HasRoom, Interned, known, looks_by_name};
+ghost use Rattle.slots.specs.Slots.{filled};
 
 use keys::kinds::Name;
 use keys::span::Span;
@@ -13,30 +13,43 @@ use std::marker::Model;
 pub struct NameIndex<'a, V> {
     text: Text<'a>,
     map: Map<'a, Span, V>,
+    count: usize,
 }
 
 impl<'a, V> Model for NameIndex<'a, V> {
+    ghost use Rattle.std.specs.Prelude.{◌≡◌};
     ghost use Rattle.indexes.specs.Known.{Names};
     ghost use Rattle.keys.specs.Senses.{bytes_digest};
     ghost use Rattle.keys.specs.Spans.{span_bytes, span_end};
-    ghost use Rattle.slots.specs.Slots.{Kept};
+    ghost use Rattle.slots.specs.Slots.{Kept, filled};
 
     ghost Value = { Names V };
 
     ghost view = { λ t. record { text = t.text; slots = t.map.slots.now } };
 
-    ghost invariant = { λ t. Kept span_bytes bytes_digest span_end t.text.text t.map.slots.now };
+    ghost invariant = { λ t. (t.count ≡ filled t.map.slots.now) × Kept span_bytes bytes_digest span_end t.text.text t.map.slots.now };
 }
 
 impl<'a, V: Copy> NameIndex<'a, V> {
     // A table without names over lent bytes and slots, whatever these held before.
     pub fn new(bytes: &'a mut [u8], slots: &'a mut [Entry<Span, V>]) -> NameIndex<'a, V>
-        ensures { (q : List ℕ) → known result q ≡ None }
+        ensures holds { (q : List ℕ) → known result q ≡ None }
+        ensures count { filled result.slots ≡ 0 }
+        ensures size { length result.slots ≡ length slots.old }
+        ensures text { result.text ≡ record { text = []; spare = bytes.old } }
     {
         NameIndex {
             text: Text::new(bytes),
             map: Map::empty::<Name>(slots),
+            count: 0,
         }
+    }
+
+    // How many names the table has.
+    pub fn len(&self) -> usize
+        ensures { result ≡ filled self.now.slots }
+    {
+        self.count
     }
 
     // The map over the text.
@@ -62,8 +75,8 @@ impl<'a, V: Copy> NameIndex<'a, V> {
 
     // The value under the name: the one that it has, or the one that is offered, where there is room to add it.
     pub fn intern(&mut self, name: &[u8], value: V) -> Option<V>
-        ensures { Interned bytes_eq (known self.old) name.now value
-            (HasRoom self.old (length name.now)) result (known self.new) }
+        ensures { Interned (known self.old name.now) value (HasRoom self.old (length name.now))
+            (GainedName self.old name.now value self.new) (self.new ≡ self.old) result }
     {
         let key = Name(name);
         let lookup = self.lookup();
@@ -74,6 +87,7 @@ impl<'a, V: Copy> NameIndex<'a, V> {
                 lookup.growth();
                 let span = self.text.append(name)?;
                 self.map.put(self.text.get(), slot, &key, span, value);
+                self.count += 1;
                 Some(value)
             }
         }

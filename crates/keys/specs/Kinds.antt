@@ -16,7 +16,7 @@ use Rattle.keys.specs.Senses.{oid_of, Pair, pair_of, same_pair}
 pub oid-laws : Laws (λ _. oid_of) nat_eq (λ _. 0)
 oid-laws = record { tells = Decides-eqb; grows = λ text more s l. refl }
 
-same-pair : (p q : Pair) → Decides (same_pair p q) (p ≡ q)
+pub same-pair : (p q : Pair) → Decides (same_pair p q) (p ≡ q)
 same-pair p q =
     Decides-like (same_pair p q) (λ e. λ i. (e.0 i, e.1 i)) (λ e. (cc, cc))
     (Decides-and (p.0 == q.0) (int_eq p.1 q.1) (Decides-eqb p.0 q.0) (Decides-int_eq p.1 q.1))

@@ -1,5 +1,5 @@
 // A key that is looked up, and the form in which a slot keeps it.
-ghost use Rattle.std.specs.Prelude.{◌≡◌, ℕ, ◌≤◌, Bool, List, length, Decides};
+ghost use Rattle.std.specs.Prelude.{◌≡◌, ℕ, ◌≤◌, Bool, List, [], length, Decides};
 ghost use Rattle.keys.specs.Laws.{Laws};
 
 // A stored key may need the text to say what it stands for.
@@ -34,4 +34,9 @@ pub trait Key {
 
     fn hash(&self) -> u32
         ensures { result ≡ digest (means self.now) };
+}
+
+// A key that a slot keeps whole: it says what it stands for without a text.
+pub trait WholeKey: Key<Stored = Self> + Copy {
+    ghost whole: { (key : Self) → (Self.Key.extent key ≡ 0) × (Self.Key.stands [] key ≡ Self.Key.means key) };
 }

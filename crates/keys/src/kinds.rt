@@ -1,11 +1,11 @@
 // The three kinds of key: an OID, an attribute of a relation, and a name.
-ghost use Rattle.std.specs.Prelude.{◌≡◌, ℕ, List, Decides, nat_eq};
+ghost use Rattle.std.specs.Prelude.{◌≡◌, ℕ, List, Decides, nat_eq, refl};
 ghost use Rattle.keys.specs.Kinds.{bytes_laws, oid-laws, pair-laws};
 ghost use Rattle.keys.specs.Senses.{Pair, bytes_digest, finished, folded_sign, mixed, name_bytes, oid_digest, oid_of, pair_digest, pair_of, same_pair};
 ghost use Rattle.keys.specs.Spans.{span_bytes, span_end};
 ghost use Rattle.std.specs.Str.{bytes_eq};
 
-use crate::key::Key;
+use crate::key::{Key, WholeKey};
 use crate::span::Span;
 use type_info::oid::{AttributeNumber, Oid};
 
@@ -50,6 +50,10 @@ impl Key for Oid {
     }
 }
 
+impl WholeKey for Oid {
+    ghost whole = { λ _. (refl, refl) };
+}
+
 // An attribute of a relation. Attribute numbers below 0 are the system's.
 #[derive(Clone, Copy, PartialEq, Eq, Debug)]
 pub struct Attribute {
@@ -87,6 +91,10 @@ impl Key for Attribute {
     fn hash(&self) -> u32 {
         finish(mix(mix(SEED, self.relation.0), fold_sign(self.number.0)))
     }
+}
+
+impl WholeKey for Attribute {
+    ghost whole = { λ _. (refl, refl) };
 }
 
 // A name to look up; stored it is a span of the text.

@@ -70,6 +70,7 @@ module _ {S V Q : Type 0} where
           sound = sound-set sound there;
           holds = λ p. held-set alike tells sense es i s v p free.0.1.inside free.1 (free-absent sound there) ∙ ap (λ same. cond same (Some v) (held alike sense es p)) (alike_flipped alike tells p (sense s));
           count = filled-set es i s v free.0.1.inside free.1;
+          size = length-set es i (Some (s, v));
         })
 
     pub within-set : (extent : S → ℕ) (n : ℕ) → i < length es → extent s ≤ n → Within extent n es → Within extent n after

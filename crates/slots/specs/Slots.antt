@@ -104,6 +104,7 @@ module _ {S V Q : Type 0} where
     pub sound : Sound sense digest fs
     pub holds : (p : Q) → held alike sense fs p ≡ update alike (held alike sense es) q (Some v) p
     pub count : filled fs ≡ filled es + 1
+    pub size : length fs ≡ length es
 
   -- what an insertion of q with v leaves, by where the search stopped
   abbrev pub Inserted : (Q → Q → Bool) → (S → Q) → (Q → ℕ) → List (Entry S V) → Q → V → Stop V → List (Entry S V) → Type 0

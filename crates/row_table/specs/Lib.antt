@@ -1,4 +1,5 @@
 pub mod Held
+pub mod Tables
 pub mod Table
 pub mod Laws
 pub mod Additions

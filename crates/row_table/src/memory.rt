@@ -10,17 +10,18 @@ pub const MOST_ROWS: usize = 256;
 
 pub const MOST_NAMES: usize = 512;
 
+// Labels and attributes together.
 pub const MOST_PARTS: usize = 1024;
 
 pub const MOST_COLUMNS: usize = 1024;
-// 128 bytes for each name
+
+// 128 bytes for each name.
 pub const TEXT_BYTES: usize = 65536;
 
-// What it holds does not matter. It needs a slot for the place of each row and for the table of each column's relation.
+// A slot for each row, name and column, and one for the table of each column's relation. What they hold does not matter.
 #[derive(Drop)]
 pub struct Memory<'a> {
-    pub rows: &'a mut [Row],
-    pub places: &'a mut [Entry<Oid, usize>],
+    pub rows: &'a mut [Entry<Oid, Row>],
     pub names: &'a mut [Entry<Span, Oid>],
     pub text: &'a mut [u8],
     pub relations: &'a mut [Entry<Oid, LongName>],

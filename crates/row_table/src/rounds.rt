@@ -32,7 +32,7 @@ impl<'a> TypeCatalog for RowTable<'a> {
     }
 
     fn row(&self, _round: &TableRound, oid: Oid) -> Option<Row> {
-        self.find_row(oid)
+        self.rows.find(oid)
     }
 
     fn oid_of(&self, _round: &TableRound, name: &[u8]) -> Option<Oid> {
@@ -51,14 +51,11 @@ impl<'a> ColumnCatalog for RowTable<'a> {
         relation: Oid,
         attribute: AttributeNumber,
     ) -> Option<Column> {
-        let table = self.relations.get(&[], &relation)?;
-        let name = self.columns.get(
-            &[],
-            &Attribute {
-                relation,
-                number: attribute,
-            },
-        )?;
+        let table = self.relations.find(relation)?;
+        let name = self.columns.find(Attribute {
+            relation,
+            number: attribute,
+        })?;
         Some(Column { table, name })
     }
 }

@@ -7,4 +7,3 @@ pub mod memory;
 mod putting;
 pub mod rounds;
 pub mod table;
-pub mod verdict;

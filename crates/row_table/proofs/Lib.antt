@@ -1,0 +1,4 @@
+pub mod Updates
+pub mod Fresh
+pub mod Consistent
+pub mod Put
