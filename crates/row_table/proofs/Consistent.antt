@@ -4,6 +4,7 @@ use Rattle.std.specs.Prelude.{nat_eq}
 use Rattle.std.specs.Map.{update}
 use Rattle.std.specs.Str.{bytes_eq}
 use Rattle.std.proofs.lemmas.Slice.Eq.{bytes_eq-Decides}
+use Rattle.std.proofs.lemmas.Bool.{false≢true}
 use Rattle.std.proofs.lemmas.Bool.Decides.{Decides-eqb}
 use Rattle.catalog.specs.Catalog.{CatalogColumn, CatalogRow, Sized}
 use Rattle.keys.specs.declared.kinds.Attribute.{Attribute}
@@ -12,7 +13,7 @@ use Rattle.keys.specs.Senses.{Pair, pair_of, same_pair}
 use Rattle.type_info.specs.declared.oid.Oid.{Oid}
 use Rattle.row_table.specs.Additions.{with_column, with_name, with_row}
 use Rattle.row_table.specs.Held.{Consistent, Held}
-use Rattle.row_table.proofs.Fresh.{NewName, NewRow}
+use Rattle.row_table.proofs.Fresh.{Beside, NewName, NewRow}
 use Rattle.row_table.proofs.Updates.{here, stays, stays_some, was}
 
 module _ (h : Held) (c : Consistent h) (oid : Oid) where
@@ -58,6 +59,14 @@ module _ (h : Held) (c : Consistent h) (oid : Oid) where
         (was bytes_eq bytes_eq-Decides h.named name oid.0 s o e);
     table_told = c.table_told;
   }
+
+-- a new column has no name yet: where its relation tells no table, it has no columns
+pub no_column :
+    (h : Held) → Consistent h → (at : Attribute) (table name : Option (List ℕ)) → h.tables at.relation.0 ≡ table → h.column_names (pair_of at) ≡ name →
+    (k : List ℕ) → Beside table name k → name ≡ None
+no_column h c at table None is named k beside = refl
+no_column h c at None (Some n) is named k beside = absurd (false≢true (sym (ap is_some is) ∙ c.table_told at.relation.0 at.number.0 (ap is_some named)))
+no_column h c at (Some table) (Some n) is named k beside = beside.1
 
 some : {A : Type 0} (x : Option A) → is_some x ≡ true → (a : A) × (x ≡ Some a)
 some None e = let z : ◌≡◌ {A = ℕ} 0 1 = cc in absurd (omega arith)

@@ -2,3 +2,5 @@ pub mod Updates
 pub mod Fresh
 pub mod Consistent
 pub mod Put
+pub mod Told
+pub mod Grown

@@ -1,12 +1,11 @@
 -- What the tables hold before anything was put into them and once an addition that is new was, and the room that is left.
 -- Assumes nothing.
-use Rattle.std.proofs.Common.{◌≡◌, ℕ, ◌+◌, ◌<◌, ◌≤◌, Bool, true, false, List, [], length, is_some, Some, None, Ok, Option, sym, refl, ap, ◌∙◌, subst, arith, length-append}
+use Rattle.std.proofs.Common.{◌≡◌, ℕ, ◌+◌, ◌<◌, ◌≤◌, true, List, [], length, Some, None, Ok, Option, sym, refl, ap, ◌∙◌, subst, arith, length-append}
 use Rattle.std.specs.Prelude.{nat_eq}
 use Rattle.std.specs.Map.{update}
 use Rattle.std.specs.Option.{option_map}
 use Rattle.std.specs.Str.{bytes_eq}
 use Rattle.std.proofs.lemmas.Slice.Eq.{bytes_eq-Decides}
-use Rattle.std.proofs.lemmas.Bool.{true≢false}
 use Rattle.std.proofs.lemmas.Bool.Decides.{Decides-eqb}
 use Rattle.catalog.specs.declared.row.Row.{Row}
 use Rattle.catalog.specs.declared.text.Text.{Text}
@@ -25,7 +24,7 @@ use Rattle.row_table.specs.Additions.{column_judged, name_judged, parts, row_jud
 use Rattle.row_table.specs.Held.{Consistent, Held, nothing_held}
 use Rattle.row_table.specs.Table.{held_of}
 use Rattle.row_table.specs.Tables.{Roomy, holding}
-use Rattle.row_table.proofs.Consistent.{consistent_with_column, consistent_with_name, consistent_with_row}
+use Rattle.row_table.proofs.Consistent.{consistent_with_column, consistent_with_name, consistent_with_row, no_column}
 use Rattle.row_table.proofs.Fresh.{Beside, new_column, new_name, new_row}
 use Rattle.row_table.proofs.Updates.{put_again, told_after}
 
@@ -206,15 +205,6 @@ module _ (t : RowTable) where
           few = let count : filled relations ≡ filled t.relations = ap filled interned.1 in omega (arith, t.roomy.relations_few);
         }
 
-  -- a relation that tells no table has no columns
-  no-column : (at : Attribute) (table name : Option (List ℕ)) → h.tables at.relation.0 ≡ table → h.column_names (pair_of at) ≡ name → (k : List ℕ) → Beside table name k → name ≡ None
-  no-column at table None is named k beside = refl
-  no-column at None (Some n) is named k beside =
-      let there = t.consistent.table_told at.relation.0 at.number.0 (ap is_some named) in
-      let z : ◌≡◌ {A = Bool} true false = sym there ∙ ap is_some is in
-      absurd (true≢false z)
-  no-column at (Some table) (Some n) is named k beside = beside.1
-
   unmapped : {n : ℕ} (x : Option (Text n)) → option_map text_of x ≡ None → x ≡ None
   unmapped None e = refl
   unmapped (Some s) e = let z : ◌≡◌ {A = ℕ} 0 1 = cc in absurd (omega arith)
@@ -228,7 +218,7 @@ module _ (t : RowTable) where
   column_put at k judged relations r interned columns n placed =
       let new = new_column h at (column_meaning k) judged in
       let table = table_held at k new.columns_left relations r (by_oid t.relations at.relation.0) refl interned (h.column_names (pair_of at)) new.beside in
-      let none = no-column at (h.tables at.relation.0) (h.column_names (pair_of at)) refl refl (text_of k.table) new.beside in
+      let none = no_column h t.consistent at (h.tables at.relation.0) (h.column_names (pair_of at)) refl refl (text_of k.table) new.beside in
       let gained : Gained same_pair pair_of t.columns (pair_of at) k.name columns =
       taken (by_attribute t.columns (pair_of at)) k.name _ _ _ n placed (unmapped (by_attribute t.columns (pair_of at)) none) (omega (arith, t.roomy.columns_lent, new.columns_left)) in
       let told = told_after same_pair (option_map text_of) (by_attribute t.columns) (by_attribute columns) (pair_of at) k.name gained.holds in

@@ -28,7 +28,7 @@ text-fits : (most : ℕ) (x : Option (Text most)) (s : List ℕ) → option_map 
 text-fits most None s e = absurd (no-some s e)
 text-fits most (Some t) s e = let same : text_of t ≡ s = cc in subst (Sized most) same (text-sized most t)
 
-column-some : (table name : Option (List ℕ)) (k : CatalogColumn) → column_from table name ≡ Some k → (table ≡ Some k.table) × (name ≡ Some k.column)
+pub column-some : (table name : Option (List ℕ)) (k : CatalogColumn) → column_from table name ≡ Some k → (table ≡ Some k.table) × (name ≡ Some k.column)
 column-some None name k e = absurd (no-some k e)
 column-some (Some t) None k e = absurd (no-some k e)
 column-some (Some t) (Some n) k e = (cc, cc)

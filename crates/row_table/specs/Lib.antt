@@ -3,3 +3,4 @@ pub mod Tables
 pub mod Table
 pub mod Laws
 pub mod Additions
+pub mod Outcomes
