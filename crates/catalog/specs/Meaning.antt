@@ -1,12 +1,18 @@
--- What a row of the code means. Assumes nothing.
-use Rattle.std.specs.Prelude.{ℕ, List, map, Some, None, Option}
+-- What a row of the code means, and its shape. Assumes nothing.
+use Rattle.std.specs.Prelude.{ℕ, List, map, Some, None, Ok, Err, Option, Result}
 use Rattle.type_info.specs.declared.oid.Oid.{Oid}
 use Rattle.catalog.specs.declared.values.Attribute.{Attribute}
 use Rattle.catalog.specs.declared.values.Column.{Column}
 use Rattle.catalog.specs.declared.row.Row.{Row}
+use Rattle.catalog.specs.declared.shape.Head.{Head as CodeHead}
+use Rattle.catalog.specs.declared.shape.Head.TheVariants as h
+use Rattle.catalog.specs.declared.shape.Shape.{Shape as CodeShape}
+use Rattle.catalog.specs.declared.shape.Malformed.{Malformed}
 use Rattle.catalog.specs.declared.text.Text.{Text}
+use Rattle.catalog.specs.declared.few.Few.{Few}
 use Rattle.catalog.specs.Few.{standing}
 use Rattle.catalog.specs.Catalog.{CatalogRow, CatalogAttribute, CatalogColumn}
+use Rattle.catalog.specs.Shape.{Head, simple, pseudo, domain, array, range, enumeration, composite, Shape, names_of}
 
 abbrev pub text_of : {n : ℕ} → Text n → List ℕ
 text_of t = standing t.bytes
@@ -41,3 +47,23 @@ column_meaning k = record { table = text_of k.table; column = text_of k.name }
 abbrev pub column_told : Option Column → Option CatalogColumn
 column_told None = None
 column_told (Some k) = Some (column_meaning k)
+
+abbrev pub links_told : Few Oid 64 → List ℕ
+links_told links = map (λ o. o.0) (standing links)
+
+abbrev pub head_meaning : CodeHead → Head
+head_meaning h.Simple = simple
+head_meaning h.Pseudo = pseudo
+head_meaning h.Domain = domain
+head_meaning h.Array = array
+head_meaning h.Range = range
+head_meaning (h.Enum labels) = enumeration (map text_of labels.now)
+head_meaning (h.Composite attributes) = composite (names_of (map attribute_meaning attributes.now))
+
+abbrev pub shape_meaning : CodeShape → Shape
+shape_meaning s = record { name = s.name.now; head = head_meaning s.head; links = links_told s.links }
+
+-- nothing where the row is malformed
+abbrev pub shape_told : Result CodeShape Malformed → Option Shape
+shape_told (Ok s) = Some (shape_meaning s)
+shape_told (Err m) = None

@@ -1,65 +1,54 @@
--- The shape of a row: decided by its two codes, in the order of the rules, and by the OIDs that it has.
+-- The shape of a row: its name, its kind without the OIDs that it uses, and these OIDs, the links, in order.
 -- Assumes nothing.
-use Rattle.std.specs.Prelude.{ℕ, cond, ◌&&◌, Some, None, Ok, Err, Option, Result, ◌==◌}
-use Rattle.std.specs.Option.{option_map}
-use Rattle.type_info.specs.declared.oid.Oid.{Oid}
-use Rattle.catalog.specs.declared.codes.TypType.{TypType}
-use Rattle.catalog.specs.declared.codes.TypCategory.{TypCategory}
-use Rattle.catalog.specs.declared.shape.Links.{Links}
-use Rattle.catalog.specs.declared.shape.Shape.{Shape}
-use Rattle.catalog.specs.declared.shape.Shape.TheVariants as s
-use Rattle.catalog.specs.declared.shape.Malformed.{Malformed}
+use Rattle.std.specs.Prelude.{ℕ, Bool, not, ◌&&◌, ◌==◌, if◌then◌else◌, List, [], ◌∷◌, map, Some, None, Option}
+use Rattle.std.specs.Option.{option_and_then, option_map}
+use Rattle.catalog.specs.declared.codes.TypType.TheVariants as t
+use Rattle.catalog.specs.declared.codes.TypCategory.TheVariants as c
+use Rattle.catalog.specs.Catalog.{Catalog, CatalogAttribute, CatalogRow}
 use Rattle.catalog.specs.Codes.{listed, typtypes, typcategories, typtype_byte, typcategory_byte}
 
--- the OIDs that a row may have for its shape
-pub record Linked : Type 0 where
-  pub typelem : Option ℕ
-  pub typbasetype : Option ℕ
-  pub rngsubtype : Option ℕ
+abbrev pub Name : Type 0
+Name = List ℕ
 
-pub data Form : Type 0 where
-  domain : ℕ → Form
-  array : ℕ → Form
-  range : ℕ → Form
-  pseudo : Form
-  enumeration : Form
-  composite : Form
-  simple : Form
+pub data Head : Type 0 where
+  simple pseudo domain array range : Head
+  enumeration : List Name → Head
+  composite : List Name → Head
 
--- where the codes are listed: nothing says that the OID is missing which the form needs.
--- The bytes are d 100, b 98 with A 65, p 112, r 114, e 101, c 99
-abbrev pub form_of : ℕ → ℕ → Linked → Option Form
-form_of typtype category l =
-    cond (typtype == 100) (option_map domain l.typbasetype)
-    (cond (typtype == 98 && category == 65) (option_map array l.typelem)
-    (cond (typtype == 112) (Some pseudo)
-    (cond (typtype == 114) (option_map range l.rngsubtype)
-    (cond (typtype == 101) (Some enumeration)
-    (cond (typtype == 99) (Some composite) (Some simple))))))
+pub record Shape : Type 0 where
+  pub name : Name
+  pub head : Head
+  pub links : List ℕ
 
--- a row with any other code is malformed too
-abbrev pub bytes_shape : ℕ → ℕ → Linked → Option Form
-bytes_shape typtype category l =
-    cond (listed typtype typtypes && listed category typcategories) (form_of typtype category l) None
+abbrev pub names_of : List CatalogAttribute → List Name
+names_of attributes = map (λ a. a.called) attributes
 
-abbrev pub codes_shape : TypType → TypCategory → Linked → Option Form
-codes_shape typtype category l = form_of (typtype_byte typtype) (typcategory_byte category) l
+abbrev pub oids_of : List CatalogAttribute → List ℕ
+oids_of attributes = map (λ a. a.typed) attributes
 
-abbrev pub oid_number : Oid → ℕ
-oid_number o = o.0
+abbrev pub shaped : CatalogRow → Head → List ℕ → Shape
+shaped r head links = record { name = r.pretty; head = head; links = links }
 
-abbrev pub links_of : Links → Linked
-links_of l = record { typelem = option_map oid_number l.typelem; typbasetype = option_map oid_number l.typbasetype; rngsubtype = option_map oid_number l.rngsubtype }
+-- of a kind that needs this one OID
+abbrev pub linked : CatalogRow → Head → Option ℕ → Option Shape
+linked r head oid = option_map (λ o. shaped r head (o ∷ [])) oid
 
-abbrev pub form_read : Shape → Form
-form_read (s.Domain o) = domain o.0
-form_read (s.Array o) = array o.0
-form_read s.Pseudo = pseudo
-form_read (s.Range o) = range o.0
-form_read s.Enum = enumeration
-form_read s.Composite = composite
-form_read s.Simple = simple
+abbrev pub codes_listed : CatalogRow → Bool
+codes_listed r = listed r.typtype typtypes && listed r.typcategory typcategories
 
-abbrev pub shape_read : Result Shape Malformed → Option Form
-shape_read (Ok s) = Some (form_read s)
-shape_read (Err m) = None
+-- nothing where the row is malformed: a code is not listed, or the OID is missing that the kind needs.
+-- The first line that fits decides
+unfoldable pub shape : CatalogRow → Option Shape
+shape r =
+    if not (codes_listed r) then None
+    else if r.typtype == typtype_byte t.Domain then linked r domain r.typbasetype
+    else if r.typtype == typtype_byte t.Base && r.typcategory == typcategory_byte c.Array then linked r array r.typelem
+    else if r.typtype == typtype_byte t.Pseudo then Some (shaped r pseudo [])
+    else if r.typtype == typtype_byte t.Range then linked r range r.rngsubtype
+    else if r.typtype == typtype_byte t.Enum then Some (shaped r (enumeration r.labels) [])
+    else if r.typtype == typtype_byte t.Composite then Some (shaped r (composite (names_of r.attributes)) (oids_of r.attributes))
+    else Some (shaped r simple [])
+
+-- the shape of an OID's row; nothing where there is no row or it is malformed
+unfoldable pub formed : Catalog → ℕ → Option Shape
+formed c o = option_and_then shape (c.rows o)

@@ -1,32 +1,39 @@
-// The shape of a row: what kind of type it tells of, and the OIDs that this kind needs.
-ghost use Rattle.std.specs.Prelude.{◌≡◌, Some, codes};
-ghost use Rattle.catalog.specs.Shape.{bytes_shape, codes_shape, links_of, shape_read};
+// The shape of a row: its name, what kind of type it tells of, and the OIDs that this kind uses.
+ghost use Rattle.std.specs.Prelude.{◌≡◌, [], ◌∷◌, Some, codes, map};
+ghost use Rattle.std.specs.Option.{option_map};
+ghost use Rattle.std.specs.Result.{result_ok};
+ghost use Rattle.catalog.specs.Few.{standing};
+ghost use Rattle.catalog.specs.Meaning.{attribute_meaning, links_told, oid_told, row_meaning, shape_told};
+ghost use Rattle.catalog.specs.Shape.{oids_of, shape};
 
 use crate::codes::{TypCategory, TypType, UnknownCode};
+use crate::few::Few;
+use crate::row::Row;
+use crate::values::{Attribute, ShortName};
 use std::error::Error;
 use std::fmt;
 use type_info::oid::Oid;
 
-// The OIDs of a row that a shape may need.
-#[derive(Clone, Copy)]
-pub struct Links {
-    pub typelem: Option<Oid>,
-    pub typbasetype: Option<Oid>,
-    pub rngsubtype: Option<Oid>,
-}
-
-#[derive(Clone, Copy, PartialEq, Eq, Debug)]
-pub enum Shape {
-    Domain(Oid),
-    Array(Oid),
-    Pseudo,
-    Range(Oid),
-    Enum,
-    Composite,
+// A kind without the OIDs that it uses.
+#[derive(Clone, Copy, PartialEq, Eq)]
+pub enum Head<'r> {
     Simple,
+    Pseudo,
+    Domain,
+    Array,
+    Range,
+    Enum(&'r [ShortName]),
+    Composite(&'r [Attribute]),
 }
 
-// A code that is not listed, or the OID missing that the shape needs.
+#[derive(Clone, Copy, PartialEq, Eq)]
+pub struct Shape<'r> {
+    pub name: &'r [u8],
+    pub head: Head<'r>,
+    pub links: Few<Oid, 64>,
+}
+
+// A code that is not listed, or the OID missing that the kind needs.
 #[derive(Clone, Copy, PartialEq, Eq, Debug)]
 pub struct Malformed;
 
@@ -46,28 +53,51 @@ impl fmt::Display for Malformed {
 
 impl Error for Malformed {}
 
-// The first line that fits decides.
-pub fn decide(typtype: TypType, category: TypCategory, links: Links) -> Result<Shape, Malformed>
-    ensures { shape_read result ≡ codes_shape typtype category (links_of links) }
+// The links of a kind that needs this one OID.
+fn one_link(oid: Option<Oid>) -> Result<Few<Oid, 64>, Malformed>
+    ensures { option_map links_told (result_ok result) ≡ option_map (λ o. o ∷ []) (oid_told oid) }
 {
-    match (typtype, category) {
-        (TypType::Domain, _) => links.typbasetype.map(Shape::Domain).ok_or(Malformed),
-        (TypType::Base, TypCategory::Array) => links.typelem.map(Shape::Array).ok_or(Malformed),
-        (TypType::Pseudo, _) => Ok(Shape::Pseudo),
-        (TypType::Range, _) => links.rngsubtype.map(Shape::Range).ok_or(Malformed),
-        (TypType::Enum, _) => Ok(Shape::Enum),
-        (TypType::Composite, _) => Ok(Shape::Composite),
-        (TypType::Base, _) => Ok(Shape::Simple),
-    }
+    let mut links = Few::new(Oid(0));
+    links.push(oid.ok_or(Malformed)?);
+    Ok(links)
 }
 
-// The shape of a row with these code bytes.
-pub fn shape_of(typtype: u8, category: u8, links: Links) -> Result<Shape, Malformed>
-    ensures { shape_read result ≡ bytes_shape typtype category (links_of links) }
+// There are at most 64, so none is refused.
+fn oids_of(attributes: &Few<Attribute, 64>) -> Few<Oid, 64>
+    ensures { links_told result ≡ oids_of (map attribute_meaning (standing attributes.now)) }
 {
-    decide(
-        TypType::try_from(typtype)?,
-        TypCategory::try_from(category)?,
-        links,
-    )
+    let mut oids = Few::new(Oid(0));
+    for attribute in attributes.as_slice() {
+        oids.push(attribute.oid);
+    }
+    oids
+}
+
+impl Row {
+    // The first line that fits decides.
+    #[tactic(auto, unfolding(crate::specs::Shape::shape))]
+    pub fn shape(&self) -> Result<Shape<'_>, Malformed>
+        ensures { shape_told result ≡ shape (row_meaning self.now) }
+    {
+        let typtype = TypType::try_from(self.typtype)?;
+        let category = TypCategory::try_from(self.typcategory)?;
+        let no_links = Few::new(Oid(0));
+        let (head, links) = match (typtype, category) {
+            (TypType::Domain, _) => (Head::Domain, one_link(self.typbasetype)?),
+            (TypType::Base, TypCategory::Array) => (Head::Array, one_link(self.typelem)?),
+            (TypType::Pseudo, _) => (Head::Pseudo, no_links),
+            (TypType::Range, _) => (Head::Range, one_link(self.rngsubtype)?),
+            (TypType::Enum, _) => (Head::Enum(self.labels.as_slice()), no_links),
+            (TypType::Composite, _) => (
+                Head::Composite(self.attributes.as_slice()),
+                oids_of(&self.attributes),
+            ),
+            (TypType::Base, _) => (Head::Simple, no_links),
+        };
+        Ok(Shape {
+            name: self.pretty.get(),
+            head,
+            links,
+        })
+    }
 }

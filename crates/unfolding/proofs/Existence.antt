@@ -3,7 +3,7 @@ use Rattle.std.proofs.Common.{◌≡◌, ℕ, zero, suc, ◌+◌, ◌<◌, ◌�
 use Rattle.std.proofs.lemmas.Bool.{cases_Bool}
 use Rattle.unfolding.specs.Lists.{Mem}
 use Rattle.catalog.specs.Catalog.{Catalog}
-use Rattle.unfolding.specs.Shapes.{Shape, formed}
+use Rattle.catalog.specs.Shape.{Shape, formed}
 use Rattle.unfolding.specs.Unfolding.{Tree, built, node, Trees, none, more, Link, Unfolds, UnfoldAll, HasUnfolding, Leads, itself, onward, built_in}
 use Rattle.unfolding.specs.Laws.{GoesRound, Exists}
 use Rattle.unfolding.proofs.Lists.{Distinct, pigeon}

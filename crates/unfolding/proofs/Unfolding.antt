@@ -1,21 +1,22 @@
 -- An OID has at most one unfolding, and keeps it as the catalog grows. Assumes nothing.
 use Rattle.std.proofs.Common.{◌≡◌, ℕ, false, List, [], ◌∷◌, Some, None, Option, sym, refl, ap, ◌∙◌, subst, inl, inr}
+use Rattle.std.specs.Option.{option_and_then}
 use Rattle.unfolding.specs.Lists.{Mem}
 use Rattle.catalog.specs.Catalog.{Catalog, CatalogRow, Grows}
-use Rattle.unfolding.specs.Shapes.{Shape, shape, shape_of_row, formed}
+use Rattle.catalog.specs.Shape.{Shape, shape, formed}
 use Rattle.unfolding.specs.Unfolding.{Tree, built, node, Trees, none, more, Link, Unfolds, UnfoldAll, HasUnfolding, built_in}
 
 pub formed-row : (c : Catalog) (o : ℕ) (s : Shape) → formed c o ≡ Some s → (r : CatalogRow) × (c.rows o ≡ Some r) × (shape r ≡ Some s)
 unfolding formed
 formed-row c o s e =
     by_cases (c.rows o) refl e where
-      by_cases : (r : Option CatalogRow) → c.rows o ≡ r → shape_of_row r ≡ Some s → (k : CatalogRow) × (c.rows o ≡ Some k) × (shape k ≡ Some s)
+      by_cases : (r : Option CatalogRow) → c.rows o ≡ r → option_and_then shape r ≡ Some s → (k : CatalogRow) × (c.rows o ≡ Some k) × (shape k ≡ Some s)
       by_cases None h e = absurd cc
       by_cases (Some k) h e = (k, h, e)
 
 pub row-formed : (c : Catalog) (o : ℕ) (r : CatalogRow) → c.rows o ≡ Some r → formed c o ≡ shape r
 unfolding formed
-row-formed c o r e = ap shape_of_row e
+row-formed c o r e = ap (option_and_then shape) e
 
 pub formed-grows : (c d : Catalog) → Grows c d → (o : ℕ) (s : Shape) → formed c o ≡ Some s → formed d o ≡ Some s
 formed-grows c d g o s e = let r = formed-row c o s e in row-formed d o r.0 (g.rows_stay o r.0 r.1) ∙ r.2

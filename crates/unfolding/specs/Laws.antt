@@ -2,8 +2,8 @@
 -- Assumes nothing.
 use Rattle.std.specs.Prelude.{◌≡◌, ℕ, true, false, ◌⊎◌, ◌↔◌, List, Some}
 use Rattle.catalog.specs.Catalog.{Catalog, Grows}
+use Rattle.catalog.specs.Shape.{Shape, formed}
 use Rattle.unfolding.specs.Lists.{Mem}
-use Rattle.unfolding.specs.Shapes.{Shape, formed}
 use Rattle.unfolding.specs.Unfolding.{Tree, Link, Unfolds, HasUnfolding, Leads, built_in}
 
 -- an OID has one unfolding at most

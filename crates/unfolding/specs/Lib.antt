@@ -1,4 +1,3 @@
 pub mod Lists
-pub mod Shapes
 pub mod Unfolding
 pub mod Laws

@@ -3,8 +3,8 @@
 use Rattle.std.specs.Prelude.{◌≡◌, ℕ, Bool, true, false, List, [], ◌∷◌, is_some, Some}
 use Rattle.unfolding.specs.Lists.{Mem}
 use Rattle.catalog.specs.Catalog.{Catalog}
+use Rattle.catalog.specs.Shape.{Name, Head, Shape, formed}
 use Rattle.type_info.specs.Table.{by_oid}
-use Rattle.unfolding.specs.Shapes.{Name, Head, Shape, formed}
 
 -- a built-in type, or OID, name and kind with a tree for each link
 mutual
