@@ -1,9 +1,7 @@
 // The shape of a row: its name, what kind of type it tells of, and the OIDs that this kind uses.
 ghost use Rattle.std.specs.Prelude.{◌≡◌, [], ◌∷◌, Some, codes, map};
-ghost use Rattle.std.specs.Option.{option_map};
-ghost use Rattle.std.specs.Result.{result_ok};
 ghost use Rattle.catalog.specs.Few.{standing};
-ghost use Rattle.catalog.specs.Meaning.{attribute_meaning, links_told, oid_told, row_meaning, shape_told};
+ghost use Rattle.catalog.specs.Meaning.{attribute_meaning, links_told, row_meaning, shape_told};
 ghost use Rattle.catalog.specs.Shape.{oids_of, shape};
 
 use crate::codes::{TypCategory, TypType, UnknownCode};
@@ -53,13 +51,13 @@ impl fmt::Display for Malformed {
 
 impl Error for Malformed {}
 
-// The links of a kind that needs this one OID.
-fn one_link(oid: Option<Oid>) -> Result<Few<Oid, 64>, Malformed>
-    ensures { option_map links_told (result_ok result) ≡ option_map (λ o. o ∷ []) (oid_told oid) }
+// The links of a kind that uses one OID.
+fn one_link(oid: Oid) -> Few<Oid, 64>
+    ensures { links_told result ≡ oid.0 ∷ [] }
 {
-    let mut links = Few::new(Oid(0));
-    links.push(oid.ok_or(Malformed)?);
-    Ok(links)
+    let mut links = Few::new(oid);
+    links.push(oid);
+    links
 }
 
 // There are at most 64, so none is refused.
@@ -74,7 +72,7 @@ fn oids_of(attributes: &Few<Attribute, 64>) -> Few<Oid, 64>
 }
 
 impl Row {
-    // The first line that fits decides.
+    // The first line that fits decides. Where the OID is absent that a kind needs, the row is malformed.
     #[tactic(auto, unfolding(crate::specs::Shape::shape))]
     pub fn shape(&self) -> Result<Shape<'_>, Malformed>
         ensures { shape_told result ≡ shape (row_meaning self.now) }
@@ -83,15 +81,24 @@ impl Row {
         let category = TypCategory::try_from(self.typcategory)?;
         let no_links = Few::new(Oid(0));
         let (head, links) = match (typtype, category) {
-            (TypType::Domain, _) => (Head::Domain, one_link(self.typbasetype)?),
-            (TypType::Base, TypCategory::Array) => (Head::Array, one_link(self.typelem)?),
+            (TypType::Domain, _) if let Some(base) = self.typbasetype => {
+                (Head::Domain, one_link(base))
+            }
+            (TypType::Base, TypCategory::Array) if let Some(element) = self.typelem => {
+                (Head::Array, one_link(element))
+            }
             (TypType::Pseudo, _) => (Head::Pseudo, no_links),
-            (TypType::Range, _) => (Head::Range, one_link(self.rngsubtype)?),
+            (TypType::Range, _) if let Some(subtype) = self.rngsubtype => {
+                (Head::Range, one_link(subtype))
+            }
             (TypType::Enum, _) => (Head::Enum(self.labels.as_slice()), no_links),
             (TypType::Composite, _) => (
                 Head::Composite(self.attributes.as_slice()),
                 oids_of(&self.attributes),
             ),
+            (TypType::Domain | TypType::Range, _) | (TypType::Base, TypCategory::Array) => {
+                return Err(Malformed);
+            }
             (TypType::Base, _) => (Head::Simple, no_links),
         };
         Ok(Shape {
