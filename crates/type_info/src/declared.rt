@@ -36,10 +36,10 @@ impl<'a> Declared<'a> {
         ensures { option_map (λ x. x.now) result ≡ element_name (declaration_of self.entry) }
     {
         match self {
-            Declared::Oid(_) => None,
             // PostgreSQL names an array by an underscore and its element's name
-            Declared::Name(bytes) => bytes.strip_prefix(b"_"),
-            Declared::ArrayOf(bytes) => Some(bytes),
+            Declared::Name([b'_', element @ ..]) => Some(element),
+            Declared::ArrayOf(name) => Some(name),
+            Declared::Name(_) | Declared::Oid(_) => None,
         }
     }
 }
