@@ -1,3 +1,2 @@
 pub mod NoLine
-pub mod Prefix
 pub mod Verbs

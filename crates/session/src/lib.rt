@@ -3,4 +3,3 @@
 
 pub mod requests;
 pub mod session;
-pub mod trouble;

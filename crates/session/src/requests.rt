@@ -1,63 +1,29 @@
 // What each kind of line asks for and what is printed for it.
 ghost use Rattle.script.specs.Words.{words};
-ghost use Rattle.session.specs.Lines.{NameRead, Replies, builtin_name_reply, builtin_reply, element_reply, entry_reply, reply};
+ghost use Rattle.session.specs.Lines.{Replies, builtin_name_reply, builtin_reply, element_reply, reply};
 
-use crate::trouble::Trouble;
-use script::names::decode;
-use script::numbers::unsigned;
-use script::words::only_word;
-use std::alloc::Global;
+use lines::entry::Entry;
+use lines::trouble::Trouble;
+use lines::word::{only_word, read_name, read_oid};
 use transcript::answers;
 use transcript::answers::Reason;
 use type_info::builtin::{by_name, by_oid};
-use type_info::declared::Declared;
-use type_info::oid::Oid;
 
 // `builtin OID`
 pub fn builtin(rest: &[u8], out: &mut Vec<u8>) -> Result<(), Trouble>
     ensures { Replies (builtin_reply (words rest.now)) out.old.items out.new.items result }
 {
-    let word = only_word(rest).ok_or(Reason::WordCount)?;
-    let oid = unsigned(word).ok_or(Reason::NotANumber)?;
-    answers::builtin(out, by_oid(Oid(oid)))?;
+    let oid = read_oid(only_word(rest)?)?;
+    answers::builtin(out, by_oid(oid))?;
     Ok(())
-}
-
-// The name that a word writes.
-fn read_name(word: &[u8], alloc: Global) -> Result<Vec<u8>, Trouble>
-    ensures { NameRead word.now result }
-{
-    let mut name = Vec::with_capacity(alloc, word.len())?;
-    decode(word, &mut name)?;
-    Ok(name)
 }
 
 // `builtin-name NAME`
 pub fn builtin_name(rest: &[u8], out: &mut Vec<u8>) -> Result<(), Trouble>
     ensures { Replies (builtin_name_reply (words rest.now)) out.old.items out.new.items result }
 {
-    let word = only_word(rest).ok_or(Reason::WordCount)?;
-    let name = read_name(word, *out.allocator())?;
+    let name = read_name(only_word(rest)?, *out.allocator())?;
     answers::builtin(out, by_name(name.as_slice()))?;
-    Ok(())
-}
-
-// `oid:N`, `name:NAME` or `array:NAME`, and the element of what it declares
-fn entry(word: &[u8], out: &mut Vec<u8>) -> Result<(), Trouble>
-    ensures { Replies (entry_reply word.now) out.old.items out.new.items result }
-{
-    if let Some(digits) = word.strip_prefix(b"oid:") {
-        let oid = unsigned(digits).ok_or(Reason::NotANumber)?;
-        answers::element(out, Declared::with_oid(Oid(oid)).element())?;
-    } else if let Some(written) = word.strip_prefix(b"name:") {
-        let name = read_name(written, *out.allocator())?;
-        answers::element(out, Declared::with_name(name.as_slice()).element())?;
-    } else if let Some(written) = word.strip_prefix(b"array:") {
-        let name = read_name(written, *out.allocator())?;
-        answers::element(out, Declared::array_of(name.as_slice()).element())?;
-    } else {
-        return Err(Trouble::NotUnderstood(Reason::NotAnEntry));
-    }
     Ok(())
 }
 
@@ -65,7 +31,9 @@ fn entry(word: &[u8], out: &mut Vec<u8>) -> Result<(), Trouble>
 pub fn element(rest: &[u8], out: &mut Vec<u8>) -> Result<(), Trouble>
     ensures { Replies (element_reply (words rest.now)) out.old.items out.new.items result }
 {
-    entry(only_word(rest).ok_or(Reason::WordCount)?, out)
+    let entry = Entry::read(only_word(rest)?, *out.allocator())?;
+    answers::element(out, entry.declared().element())?;
+    Ok(())
 }
 
 // The answer to a line, by its first word and what follows that.

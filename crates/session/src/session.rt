@@ -7,7 +7,7 @@ ghost use Rattle.transcript.specs.Appends.{Appends};
 ghost use Rattle.transcript.specs.Printed.{closing_text};
 
 use crate::requests::answer;
-use crate::trouble::Trouble;
+use lines::trouble::Trouble;
 use script::words::{first_line, next_word};
 use std::alloc::AllocError;
 use std::marker::Model;

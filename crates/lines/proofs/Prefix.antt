@@ -4,7 +4,8 @@ use Rattle.std.proofs.Common.{◌≡◌, ℕ, true, false, cond, eqb, List, [], 
 use Rattle.std.specs.Cmp.Lexicographic.{pointwise}
 use Rattle.std.proofs.lemmas.Bool.{eq-eqb, ne_eqb, cases_eq}
 use Rattle.script.specs.Words.{behind_prefix}
-use Rattle.session.specs.Lines.{entry_read, name_read, onward}
+use Rattle.lines.specs.Entries.{entry_read}
+use Rattle.lines.specs.Reading.{name_read, onward}
 use Rattle.type_info.specs.Meaning.{by_its_name, as_array_of}
 
 behind_prefix_is : (p s : List ℕ) → behind_prefix p s ≡ cond (pointwise eqb (take (length p) s) p) (Some (drop (length p) s)) None

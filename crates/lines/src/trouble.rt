@@ -1,7 +1,7 @@
 // Why a line has no answer.
 ghost use Rattle.std.specs.Prelude.{◌≡◌, Some};
-ghost use Rattle.session.specs.Lines.{name_trouble, trouble_text};
-ghost use Rattle.session.specs.declared.trouble.Trouble.TheVariants.{NotUnderstood, OutOfMemory};
+ghost use Rattle.lines.specs.Trouble.{name_trouble, trouble_text};
+ghost use Rattle.lines.specs.declared.trouble.Trouble.TheVariants.{NotUnderstood, OutOfMemory};
 
 use script::names::NameFault;
 use std::alloc::AllocError;

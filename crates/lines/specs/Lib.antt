@@ -1,0 +1,3 @@
+pub mod Trouble
+pub mod Reading
+pub mod Entries

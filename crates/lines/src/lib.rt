@@ -1,0 +1,6 @@
+// What the lines of a script ask for: the words behind the first, read into values, or why they are not understood.
+#![tactic(auto)]
+
+pub mod entry;
+pub mod trouble;
+pub mod word;
