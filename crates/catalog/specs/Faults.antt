@@ -5,6 +5,7 @@ use Rattle.catalog.specs.declared.faults.CatalogFault.{CatalogFault}
 use Rattle.catalog.specs.declared.faults.CatalogFault.TheVariants.{NoAllowance, BreaksLimit, Contradicts, Full}
 use Rattle.catalog.specs.declared.faults.HeldIn.{HeldIn}
 use Rattle.catalog.specs.declared.faults.HeldIn.TheVariants.{Rows, Names, Parts, Columns}
+use Rattle.catalog.specs.declared.faults.Layer.{Layer}
 use Rattle.catalog.specs.declared.faults.Layer.TheVariants as layer
 use Rattle.catalog.specs.declared.faults.Told.{Told}
 
@@ -24,7 +25,13 @@ fault_told (BreaksLimit of) = addition_told 11 of.0
 fault_told (Contradicts of) = addition_told 12 of.0
 fault_told (Full table) = addition_told 13 (position_of table)
 
--- how a table and a fault are told
+-- how a layer, a table and a fault are told
+abbrev pub layer_text : Layer → List ℕ
+layer_text layer.Call = codes "call"
+layer_text layer.Fill = codes "fill"
+layer_text layer.Catalog = codes "catalog"
+layer_text layer.Columns = codes "columns"
+
 abbrev pub table_text : HeldIn → List ℕ
 table_text Rows = codes "rows"
 table_text Names = codes "names"

@@ -1,6 +1,6 @@
 // What a catalog refuses, and what each refusal tells.
 ghost use Rattle.std.specs.Prelude.{◌≡◌, Some};
-ghost use Rattle.catalog.specs.Faults.{addition_told, fault_text, fault_told, table_text};
+ghost use Rattle.catalog.specs.Faults.{addition_told, fault_text, fault_told, layer_text, table_text};
 
 use std::error::Error;
 use std::fmt;
@@ -60,6 +60,19 @@ impl CatalogFault {
             CatalogFault::Contradicts(of) => addition(12, of.0),
             CatalogFault::Full(table) => addition(13, table as u32),
         }
+    }
+}
+
+impl fmt::Display for Layer {
+    ghost output = { λ layer. Some (layer_text layer) };
+
+    fn fmt<W: fmt::Write>(&self, f: &mut fmt::Formatter<W>) -> fmt::Result {
+        f.write_str(match self {
+            Layer::Call => "call",
+            Layer::Fill => "fill",
+            Layer::Catalog => "catalog",
+            Layer::Columns => "columns",
+        })
     }
 }
 

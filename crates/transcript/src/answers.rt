@@ -2,10 +2,11 @@
 ghost use Rattle.std.specs.Prelude.{Some};
 ghost use Rattle.std.specs.Option.{option_map};
 ghost use Rattle.transcript.specs.Appends.{Appends};
-ghost use Rattle.transcript.specs.Printed.{builtin_text, closing_text, echo_text, element_text, head_text, kind_text, not_understood_text, reason_text};
+ghost use Rattle.transcript.specs.Printed.{addition_text, allowance_text, builtin_text, catalog_text, closing_text, echo_text, element_text, head_text, in_use_text, kind_text, not_understood_text, reason_text, refusal_text, verb_text};
 ghost use Rattle.type_info.specs.Meaning.{entry_of, found, kind_of};
 
 use crate::words::{Shown, print};
+use catalog::faults::Told;
 use std::alloc::AllocError;
 use std::error::Error;
 use std::fmt;
@@ -17,8 +18,12 @@ pub enum Reason {
     NoSuchLine,
     WordCount,
     NotANumber,
+    NotAnAttributeNumber,
     NotAName,
+    NotACode,
     NotAnEntry,
+    NotACatalog,
+    TooMuchText,
 }
 
 impl fmt::Display for Reason {
@@ -29,13 +34,75 @@ impl fmt::Display for Reason {
             Reason::NoSuchLine => "no such line",
             Reason::WordCount => "too few or too many words",
             Reason::NotANumber => "not a number from 0 to 4294967295",
+            Reason::NotAnAttributeNumber => "not a number from -32768 to 32767",
             Reason::NotAName => "not a name",
+            Reason::NotACode => "not one byte",
             Reason::NotAnEntry => "not an entry",
+            Reason::NotACatalog => "neither rows nor shelf",
+            Reason::TooMuchText => "more text than 32 bits can count",
         })
     }
 }
 
 impl Error for Reason {}
+
+// A catalog that steps may ask.
+#[derive(Clone, Copy, PartialEq, Eq, Debug)]
+pub enum InUse {
+    Rows,
+    Shelf,
+}
+
+impl fmt::Display for InUse {
+    ghost output = { λ catalog. Some (catalog_text catalog) };
+
+    fn fmt<W: fmt::Write>(&self, f: &mut fmt::Formatter<W>) -> fmt::Result {
+        f.write_str(match self {
+            InUse::Rows => "rows",
+            InUse::Shelf => "shelf",
+        })
+    }
+}
+
+// What is added to the row table.
+#[derive(Clone, Copy, PartialEq, Eq, Debug)]
+pub enum Addition {
+    Row,
+    Name,
+    Column,
+}
+
+impl fmt::Display for Addition {
+    ghost output = { λ what. Some (verb_text what) };
+
+    fn fmt<W: fmt::Write>(&self, f: &mut fmt::Formatter<W>) -> fmt::Result {
+        f.write_str(match self {
+            Addition::Row => "row",
+            Addition::Name => "name",
+            Addition::Column => "column",
+        })
+    }
+}
+
+#[derive(Clone, Copy)]
+struct Refusal(Told);
+
+impl fmt::Display for Refusal {
+    ghost output = { λ refusal. Some (refusal_text refusal.0) };
+
+    fn fmt<W: fmt::Write>(&self, f: &mut fmt::Formatter<W>) -> fmt::Result {
+        let Told {
+            number,
+            place,
+            layer,
+            rounds,
+        } = self.0;
+        write!(
+            f,
+            "refused {number} place {place} layer {layer} rounds {rounds}"
+        )
+    }
+}
 
 #[derive(Clone, Copy)]
 struct TypeKind(BuiltInKind);
@@ -95,6 +162,30 @@ pub fn element(out: &mut Vec<u8>, of: Option<&[u8]>) -> Result<(), AllocError>
     match of {
         None => print(out, "element: nothing\n"),
         Some(name) => print(out, format_args!("element: name {}\n", Shown(name))),
+    }
+}
+
+// The answer to the choice of a catalog.
+pub fn in_use(out: &mut Vec<u8>, catalog: InUse) -> Result<(), AllocError>
+    ensures { Appends (in_use_text catalog) out.old.items out.new.items result }
+{
+    print(out, format_args!("use: {catalog}\n"))
+}
+
+// The answer to the setting of an allowance.
+pub fn allowance(out: &mut Vec<u8>, rounds: u32) -> Result<(), AllocError>
+    ensures { Appends (allowance_text rounds) out.old.items out.new.items result }
+{
+    print(out, format_args!("allowance: {rounds}\n"))
+}
+
+// The answer to an addition to the row table.
+pub fn added(out: &mut Vec<u8>, what: Addition, outcome: Result<(), Told>) -> Result<(), AllocError>
+    ensures { Appends (addition_text what outcome) out.old.items out.new.items result }
+{
+    match outcome {
+        Ok(()) => print(out, format_args!("{what}: ok\n")),
+        Err(told) => print(out, format_args!("{what}: {}\n", Refusal(told))),
     }
 }
 
