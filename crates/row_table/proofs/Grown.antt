@@ -11,7 +11,7 @@ use Rattle.keys.specs.declared.kinds.Attribute.{Attribute}
 use Rattle.keys.specs.Kinds.{same-pair}
 use Rattle.keys.specs.Senses.{pair_of, same_pair}
 use Rattle.type_info.specs.declared.oid.Oid.{Oid}
-use Rattle.row_table.specs.Additions.{Judged, column_judged, held_then, name_judged, row_judged, then_held, with_column, with_name, with_row}
+use Rattle.row_table.specs.Additions.{Judged, column_judged, column_then, held_then, name_judged, name_then, row_judged, row_then, then_held, with_column, with_name, with_row}
 use Rattle.row_table.specs.Held.{Consistent, Held, catalog_of}
 use Rattle.row_table.specs.Laws.{column-some}
 use Rattle.row_table.proofs.Fresh.{Beside, new_column, new_name, new_row}
@@ -35,7 +35,7 @@ offer_grows h None judge with new after is = subst (λ (d : Held). Grows (catalo
 offer_grows h (Some x) judge with new after is = subst (λ (d : Held). Grows (catalog_of h) (catalog_of d)) (sym is) (judged_grows h (with x) (judge x) (new x))
 
 module _ (h : Held) (oid : Oid) where
-  pub row_grows : (offered : Option CatalogRow) (after : Held) → after ≡ then_held h offered (row_judged h oid) (with_row h oid) → Grows (catalog_of h) (catalog_of after)
+  pub row_grows : (offered : Option CatalogRow) (after : Held) → after ≡ row_then h oid offered → Grows (catalog_of h) (catalog_of after)
   row_grows offered after is = offer_grows h offered (row_judged h oid) (with_row h oid) new after is
     where
       new : (r : CatalogRow) → row_judged h oid r ≡ Ok true → Grows (catalog_of h) (catalog_of (with_row h oid r))
@@ -47,7 +47,7 @@ module _ (h : Held) (oid : Oid) where
             columns_stay = λ o a k there. there;
           }
 
-  pub name_grows : (offered : Option (List ℕ)) (after : Held) → after ≡ then_held h offered (name_judged h oid) (with_name h oid) → Grows (catalog_of h) (catalog_of after)
+  pub name_grows : (offered : Option (List ℕ)) (after : Held) → after ≡ name_then h oid offered → Grows (catalog_of h) (catalog_of after)
   name_grows offered after is = offer_grows h offered (name_judged h oid) (with_name h oid) new after is
     where
       new : (name : List ℕ) → name_judged h oid name ≡ Ok true → Grows (catalog_of h) (catalog_of (with_name h oid name))
@@ -79,7 +79,7 @@ module _ (h : Held) (c : Consistent h) (at : Attribute) where
         let name = stays same_pair same-pair h.column_names (pair_of at) k.column none (o, a) m.column parts.1 in
         rw (table, name) refl
 
-  pub column_grows : (offered : Option CatalogColumn) (after : Held) → after ≡ then_held h offered (column_judged h at) (with_column h at) → Grows (catalog_of h) (catalog_of after)
+  pub column_grows : (offered : Option CatalogColumn) (after : Held) → after ≡ column_then h at offered → Grows (catalog_of h) (catalog_of after)
   column_grows offered after is =
       offer_grows h offered (column_judged h at) (with_column h at)
       (λ k e. record { rows_stay = λ o r there. there; named_stay = λ s o there. there; columns_stay = λ o a m there. column_stays k o a m e there })

@@ -16,9 +16,9 @@ use Rattle.keys.specs.Senses.{Pair, pair_of, same_pair}
 use Rattle.offers.proofs.Decided.{same-row-decides}
 use Rattle.offers.specs.Same.{same_row}
 use Rattle.type_info.specs.declared.oid.Oid.{Oid}
-use Rattle.row_table.specs.Additions.{Judged, answer, column_beside, column_judged, held_then, judged, known_if, name_beside, name_judged, name_stands, parts, row_beside, row_by_name, row_judged, table_beside, then_held, with_column, with_name, with_row}
+use Rattle.row_table.specs.Additions.{Judged, answer, column_answer, column_beside, column_then, held_then, known_if, name_answer, name_beside, name_stands, name_then, parts, row_answer, row_beside, row_by_name, row_then, table_beside, with_column, with_name, with_row}
 use Rattle.row_table.specs.Held.{Consistent, Held, catalog_of, column_from}
-use Rattle.row_table.specs.Outcomes.{ColumnContradicted, ColumnHeld, NameContradicted, NameHeld, Outcome, RowContradicted, RowHeld, column_added, column_needs, name_added, name_needs, row_added, row_needs}
+use Rattle.row_table.specs.Outcomes.{ColumnContradicted, ColumnOutcome, ColumnHeld, NameContradicted, NameHeld, NameOutcome, Outcome, RowContradicted, RowHeld, RowOutcome, column_added, column_needs, name_added, name_needs, row_added, row_needs}
 use Rattle.row_table.proofs.Consistent.{no_column}
 use Rattle.row_table.proofs.Updates.{put_again}
 
@@ -32,7 +32,7 @@ module _ (h : Held) (c : Consistent h) (oid : Oid) where
   module _ (r : CatalogRow) where
     -- what is told of the row where it is judged so
     abbrev RowTold : Judged → Type 0
-    RowTold j = Outcome oid (Some r) (RowContradicted h oid) (RowHeld h oid) (row_needs h) (row_added oid) (catalog_of h) (catalog_of (held_then j h (with_row h oid r))) (answer j)
+    RowTold j = RowOutcome h oid (Some r) (catalog_of h) (catalog_of (held_then j h (with_row h oid r))) (answer j)
 
     row_again : h.rows oid.0 ≡ Some r → catalog_of h ≡ row_added oid r (catalog_of h)
     row_again held = λ i. record (catalog_of h) {
@@ -93,22 +93,22 @@ module _ (h : Held) (c : Consistent h) (oid : Oid) where
 
   row_outcome_of :
       (offered : Option CatalogRow) →
-      Outcome oid offered (RowContradicted h oid) (RowHeld h oid) (row_needs h) (row_added oid) (catalog_of h)
-      (catalog_of (then_held h offered (row_judged h oid) (with_row h oid))) (answer (judged oid offered (row_judged h oid)))
+      RowOutcome h oid offered (catalog_of h)
+      (catalog_of (row_then h oid offered)) (row_answer h oid offered)
   row_outcome_of None = (refl, refl, refl)
   row_outcome_of (Some r) = row_told r (h.rows oid.0) refl
 
   pub row_outcome :
-      (offered : Option CatalogRow) (after : Held) (r : Result (Unit {0}) CatalogFault) → r ≡ answer (judged oid offered (row_judged h oid)) →
-      after ≡ then_held h offered (row_judged h oid) (with_row h oid) →
-      Outcome oid offered (RowContradicted h oid) (RowHeld h oid) (row_needs h) (row_added oid) (catalog_of h) (catalog_of after) r
+      (offered : Option CatalogRow) (after : Held) (r : Result (Unit {0}) CatalogFault) → r ≡ row_answer h oid offered →
+      after ≡ row_then h oid offered →
+      RowOutcome h oid offered (catalog_of h) (catalog_of after) r
   row_outcome offered after r answered held = rw (answered, held) (row_outcome_of offered)
 
 -- a name
 module _ (h : Held) (c : Consistent h) (oid : Oid) where
   module _ (name : List ℕ) where
     abbrev NameTold : Judged → Type 0
-    NameTold j = Outcome oid (Some name) (NameContradicted h oid) (NameHeld h oid) (name_needs h) (name_added oid) (catalog_of h) (catalog_of (held_then j h (with_name h oid name))) (answer j)
+    NameTold j = NameOutcome h oid (Some name) (catalog_of h) (catalog_of (held_then j h (with_name h oid name))) (answer j)
 
     name_again : h.named name ≡ Some oid.0 → catalog_of h ≡ name_added oid name (catalog_of h)
     name_again held = λ i. record (catalog_of h) { named = put_again bytes_eq bytes_eq-Decides h.named name oid.0 held i }
@@ -150,22 +150,22 @@ module _ (h : Held) (c : Consistent h) (oid : Oid) where
 
   name_outcome_of :
       (offered : Option (List ℕ)) →
-      Outcome oid offered (NameContradicted h oid) (NameHeld h oid) (name_needs h) (name_added oid) (catalog_of h)
-      (catalog_of (then_held h offered (name_judged h oid) (with_name h oid))) (answer (judged oid offered (name_judged h oid)))
+      NameOutcome h oid offered (catalog_of h)
+      (catalog_of (name_then h oid offered)) (name_answer h oid offered)
   name_outcome_of None = (refl, refl, refl)
   name_outcome_of (Some name) = name_told name (h.named name) refl
 
   pub name_outcome :
-      (offered : Option (List ℕ)) (after : Held) (r : Result (Unit {0}) CatalogFault) → r ≡ answer (judged oid offered (name_judged h oid)) →
-      after ≡ then_held h offered (name_judged h oid) (with_name h oid) →
-      Outcome oid offered (NameContradicted h oid) (NameHeld h oid) (name_needs h) (name_added oid) (catalog_of h) (catalog_of after) r
+      (offered : Option (List ℕ)) (after : Held) (r : Result (Unit {0}) CatalogFault) → r ≡ name_answer h oid offered →
+      after ≡ name_then h oid offered →
+      NameOutcome h oid offered (catalog_of h) (catalog_of after) r
   name_outcome offered after r answered held = rw (answered, held) (name_outcome_of offered)
 
 -- a column
 module _ (h : Held) (c : Consistent h) (at : Attribute) where
   module _ (k : CatalogColumn) where
     abbrev ColumnTold : Judged → Type 0
-    ColumnTold j = Outcome at.relation (Some k) (ColumnContradicted h at) (ColumnHeld h at) (column_needs h) (column_added at) (catalog_of h) (catalog_of (held_then j h (with_column h at k))) (answer j)
+    ColumnTold j = ColumnOutcome h at (Some k) (catalog_of h) (catalog_of (held_then j h (with_column h at k))) (answer j)
 
     column_again : h.tables at.relation.0 ≡ Some k.table → h.column_names (pair_of at) ≡ Some k.column → catalog_of h ≡ column_added at k (catalog_of h)
     column_again table name =
@@ -243,13 +243,13 @@ module _ (h : Held) (c : Consistent h) (at : Attribute) where
 
   column_outcome_of :
       (offered : Option CatalogColumn) →
-      Outcome at.relation offered (ColumnContradicted h at) (ColumnHeld h at) (column_needs h) (column_added at) (catalog_of h)
-      (catalog_of (then_held h offered (column_judged h at) (with_column h at))) (answer (judged at.relation offered (column_judged h at)))
+      ColumnOutcome h at offered (catalog_of h)
+      (catalog_of (column_then h at offered)) (column_answer h at offered)
   column_outcome_of None = (refl, refl, refl)
   column_outcome_of (Some k) = column_told k (h.tables at.relation.0) refl
 
   pub column_outcome :
-      (offered : Option CatalogColumn) (after : Held) (r : Result (Unit {0}) CatalogFault) → r ≡ answer (judged at.relation offered (column_judged h at)) →
-      after ≡ then_held h offered (column_judged h at) (with_column h at) →
-      Outcome at.relation offered (ColumnContradicted h at) (ColumnHeld h at) (column_needs h) (column_added at) (catalog_of h) (catalog_of after) r
+      (offered : Option CatalogColumn) (after : Held) (r : Result (Unit {0}) CatalogFault) → r ≡ column_answer h at offered →
+      after ≡ column_then h at offered →
+      ColumnOutcome h at offered (catalog_of h) (catalog_of after) r
   column_outcome offered after r answered held = rw (answered, held) (column_outcome_of offered)

@@ -114,3 +114,22 @@ judged place (Some offered) judge = judge offered
 abbrev pub then_held : {A : Type 0} → Held → Option A → (A → Judged) → (A → Held) → Held
 then_held h None judge with = h
 then_held h (Some offered) judge with = held_then (judge offered) h (with offered)
+
+-- of a row, a name and a column, as it was offered
+abbrev pub row_answer : Held → Oid → Option CatalogRow → Result (Unit {0}) CatalogFault
+row_answer h oid offered = answer (judged oid offered (row_judged h oid))
+
+abbrev pub row_then : Held → Oid → Option CatalogRow → Held
+row_then h oid offered = then_held h offered (row_judged h oid) (with_row h oid)
+
+abbrev pub name_answer : Held → Oid → Option (List ℕ) → Result (Unit {0}) CatalogFault
+name_answer h oid offered = answer (judged oid offered (name_judged h oid))
+
+abbrev pub name_then : Held → Oid → Option (List ℕ) → Held
+name_then h oid offered = then_held h offered (name_judged h oid) (with_name h oid)
+
+abbrev pub column_answer : Held → Attribute → Option CatalogColumn → Result (Unit {0}) CatalogFault
+column_answer h at offered = answer (judged at.relation offered (column_judged h at))
+
+abbrev pub column_then : Held → Attribute → Option CatalogColumn → Held
+column_then h at offered = then_held h offered (column_judged h at) (with_column h at)

@@ -89,3 +89,13 @@ name_added oid name c = record c { named = update bytes_eq c.named name (Some oi
 
 abbrev pub column_added : Attribute → CatalogColumn → Catalog → Catalog
 column_added at k c = record c { columns = λ o a. update same_pair (λ p. c.columns p.0 p.1) (pair_of at) (Some k) (o, a) }
+
+-- the outcome of a row, a name and a column that were offered where h is held
+abbrev pub RowOutcome : Held → Oid → Option CatalogRow → Catalog → Catalog → Result (Unit {0}) CatalogFault → Type 0
+RowOutcome h oid offered = Outcome oid offered (RowContradicted h oid) (RowHeld h oid) (row_needs h) (row_added oid)
+
+abbrev pub NameOutcome : Held → Oid → Option (List ℕ) → Catalog → Catalog → Result (Unit {0}) CatalogFault → Type 0
+NameOutcome h oid offered = Outcome oid offered (NameContradicted h oid) (NameHeld h oid) (name_needs h) (name_added oid)
+
+abbrev pub ColumnOutcome : Held → Attribute → Option CatalogColumn → Catalog → Catalog → Result (Unit {0}) CatalogFault → Type 0
+ColumnOutcome h at offered = Outcome at.relation offered (ColumnContradicted h at) (ColumnHeld h at) (column_needs h) (column_added at)

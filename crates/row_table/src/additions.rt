@@ -3,9 +3,9 @@ ghost use Rattle.std.specs.Prelude.{◌≡◌, ◌≤◌, MatchOption, length, t
 ghost use Rattle.catalog.specs.Catalog.{Grows, Sized};
 ghost use Rattle.catalog.specs.Meaning.{column_meaning, row_meaning};
 ghost use Rattle.offers.specs.Offered.{offer_of, offered_column, offered_name, offered_row};
-ghost use Rattle.row_table.specs.Additions.{answer, column_judged, held_then, judged, name_judged, row_judged, then_held, with_column, with_name, with_row};
+ghost use Rattle.row_table.specs.Additions.{answer, column_answer, column_judged, column_then, held_then, name_answer, name_judged, name_then, row_answer, row_judged, row_then, with_column, with_name, with_row};
 ghost use Rattle.row_table.specs.Held.{at_allowance, nothing_held};
-ghost use Rattle.row_table.specs.Outcomes.{ColumnContradicted, ColumnHeld, NameContradicted, NameHeld, Outcome, RowContradicted, RowHeld, column_added, column_needs, name_added, name_needs, row_added, row_needs};
+ghost use Rattle.row_table.specs.Outcomes.{ColumnOutcome, NameOutcome, RowOutcome};
 ghost use Rattle.row_table.specs.Table.{Whole, held_of, meaning_of};
 
 use crate::memory::{MOST_COLUMNS, MOST_NAMES, MOST_ROWS, Memory, TEXT_BYTES};
@@ -77,9 +77,9 @@ impl<'a> RowTable<'a> {
 
     // Adds a row and its pretty name.
     pub fn add_row(&mut self, host: &[u8], offered: OfferedRow<'_>) -> Result<(), CatalogFault>
-        ensures answer { result ≡ answer (judged offered.entry.oid (offered_row host.now (offer_of offered.entry)) (row_judged (held_of self.old) offered.entry.oid)) }
-        ensures held { held_of self.new ≡ then_held (held_of self.old) (offered_row host.now (offer_of offered.entry)) (row_judged (held_of self.old) offered.entry.oid) (with_row (held_of self.old) offered.entry.oid) }
-        ensures outcome { Outcome offered.entry.oid (offered_row host.now (offer_of offered.entry)) (RowContradicted (held_of self.old) offered.entry.oid) (RowHeld (held_of self.old) offered.entry.oid) (row_needs (held_of self.old)) (row_added offered.entry.oid) (meaning_of self.old) (meaning_of self.new) result }
+        ensures answer { result ≡ row_answer (held_of self.old) offered.entry.oid (offered_row host.now (offer_of offered.entry)) }
+        ensures held { held_of self.new ≡ row_then (held_of self.old) offered.entry.oid (offered_row host.now (offer_of offered.entry)) }
+        ensures outcome { RowOutcome (held_of self.old) offered.entry.oid (offered_row host.now (offer_of offered.entry)) (meaning_of self.old) (meaning_of self.new) result }
         ensures grows { Grows (meaning_of self.old) (meaning_of self.new) }
     {
         let row = read_row(host, offered).ok_or(CatalogFault::BreaksLimit(offered.oid))?;
@@ -99,9 +99,9 @@ impl<'a> RowTable<'a> {
 
     // Adds a name that leads to an OID.
     pub fn add_name(&mut self, host: &[u8], name: Span, oid: Oid) -> Result<(), CatalogFault>
-        ensures answer { result ≡ answer (judged oid (offered_name host.now name) (name_judged (held_of self.old) oid)) }
-        ensures held { held_of self.new ≡ then_held (held_of self.old) (offered_name host.now name) (name_judged (held_of self.old) oid) (with_name (held_of self.old) oid) }
-        ensures outcome { Outcome oid (offered_name host.now name) (NameContradicted (held_of self.old) oid) (NameHeld (held_of self.old) oid) (name_needs (held_of self.old)) (name_added oid) (meaning_of self.old) (meaning_of self.new) result }
+        ensures answer { result ≡ name_answer (held_of self.old) oid (offered_name host.now name) }
+        ensures held { held_of self.new ≡ name_then (held_of self.old) oid (offered_name host.now name) }
+        ensures outcome { NameOutcome (held_of self.old) oid (offered_name host.now name) (meaning_of self.old) (meaning_of self.new) result }
         ensures grows { Grows (meaning_of self.old) (meaning_of self.new) }
     {
         let name = read_name(host, name).ok_or(CatalogFault::BreaksLimit(oid))?;
@@ -126,9 +126,9 @@ impl<'a> RowTable<'a> {
         table: Span,
         name: Span,
     ) -> Result<(), CatalogFault>
-        ensures answer { result ≡ answer (judged at.relation (offered_column host.now table name) (column_judged (held_of self.old) at)) }
-        ensures held { held_of self.new ≡ then_held (held_of self.old) (offered_column host.now table name) (column_judged (held_of self.old) at) (with_column (held_of self.old) at) }
-        ensures outcome { Outcome at.relation (offered_column host.now table name) (ColumnContradicted (held_of self.old) at) (ColumnHeld (held_of self.old) at) (column_needs (held_of self.old)) (column_added at) (meaning_of self.old) (meaning_of self.new) result }
+        ensures answer { result ≡ column_answer (held_of self.old) at (offered_column host.now table name) }
+        ensures held { held_of self.new ≡ column_then (held_of self.old) at (offered_column host.now table name) }
+        ensures outcome { ColumnOutcome (held_of self.old) at (offered_column host.now table name) (meaning_of self.old) (meaning_of self.new) result }
         ensures grows { Grows (meaning_of self.old) (meaning_of self.new) }
     {
         let column = read_column(host, table, name).ok_or(CatalogFault::BreaksLimit(at.relation))?;

@@ -1,2 +1,0 @@
-pub mod NoLine
-pub mod Verbs
