@@ -1,2 +1,4 @@
+pub mod Catalogs
+pub mod Memory
 pub mod Lines
-pub mod Counts
+pub mod Run

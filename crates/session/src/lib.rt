@@ -1,5 +1,8 @@
 // Carries out a script line by line and lays what is printed into a buffer.
 #![tactic(auto)]
 
+pub mod catalogs;
+pub mod memory;
+pub mod questions;
 pub mod requests;
 pub mod session;

@@ -1,32 +1,26 @@
 // A run of a script: its lines one by one, and how many there were.
-ghost use Rattle.std.specs.Prelude.{◌≡◌, ◌<◌, ◌≤◌, ◌++◌, length, IfOk, vec_len, OnOk, ◌==◌};
+ghost use Rattle.std.specs.Prelude.{◌≡◌, ◌<◌, ◌≤◌, ◌++◌, length, IfOk, MatchOption, vec_len, OnOk, ◌==◌};
+ghost use Rattle.row_table.specs.Table.{Whole};
 ghost use Rattle.script.specs.Words.{lines, words};
-ghost use Rattle.session.specs.Counts.{Replied, all_counted, counted, start};
-ghost use Rattle.session.specs.Lines.{all_printed, answered, is_comment, one_more, printed, reply};
+ghost use Rattle.session.specs.Run.{Replied, all_done, all_printed, answered, done, is_comment, printed, run_of, start};
+ghost use Rattle.session.specs.Lines.{reply};
 ghost use Rattle.transcript.specs.Appends.{Appends};
 ghost use Rattle.transcript.specs.Printed.{closing_text};
 
-use crate::requests::answer;
+use crate::catalogs::Catalogs;
 use lines::trouble::Trouble;
+use row_table::memory::Memory;
 use script::words::{first_line, next_word};
 use std::alloc::AllocError;
-use std::marker::Model;
 use transcript::answers;
 
 #[derive(Drop)]
-pub struct Session {
+pub struct Session<'a> {
     read: u64,
     echoed: u64,
+    refused: u64,
     misread: u64,
-}
-
-// A session is known by what it has counted.
-impl Model for Session {
-    ghost use Rattle.session.specs.Counts.{Counts};
-
-    ghost Value = { Counts };
-
-    ghost view = { λ s. record { read = s.read; echoed = s.echoed; misread = s.misread } };
+    catalogs: Catalogs<'a>,
 }
 
 fn is_comment(verb: &[u8]) -> bool
@@ -35,24 +29,33 @@ fn is_comment(verb: &[u8]) -> bool
     verb.starts_with(b"#")
 }
 
-impl Session {
-    pub fn new() -> Session
-        ensures { result ≡ start }
+impl<'a> Session<'a> {
+    // None where the memory is not of the row table's size.
+    pub fn new(memory: Memory<'a>) -> Option<Session<'a>>
+        ensures { MatchOption result (Whole memory.entry → ⊥) (λ s. run_of s ≡ start) }
     {
-        Session {
+        let catalogs = Catalogs::new(memory)?;
+        Some(Session {
             read: 0,
             echoed: 0,
+            refused: 0,
             misread: 0,
-        }
+            catalogs,
+        })
     }
 
     // Prints the answer to a line that was echoed.
     fn answer_line(&mut self, verb: &[u8], rest: &[u8], out: &mut Vec<u8>) -> Result<(), AllocError>
-        ensures prints { Appends (answered self.old.read (reply verb.now (words rest.now))) out.old.items out.new.items result }
-        ensures counts { OnOk result (Replied (reply verb.now (words rest.now)) self.old self.new) }
+        ensures prints { Appends (answered (run_of self.old).read (reply (run_of self.old).catalogs verb.now (words rest.now))) out.old.items out.new.items result }
+        ensures counts { OnOk result (Replied (reply (run_of self.old).catalogs verb.now (words rest.now)) (run_of self.old) (run_of self.new)) }
     {
-        match answer(verb, rest, out) {
-            Ok(()) => Ok(()),
+        match self.catalogs.answer(verb, rest, out) {
+            Ok(refused) => {
+                if refused {
+                    self.refused = self.refused.saturating_add(1);
+                }
+                Ok(())
+            }
             Err(Trouble::NotUnderstood(why)) => {
                 self.misread = self.misread.saturating_add(1);
                 answers::not_understood(out, self.read, why)
@@ -63,8 +66,8 @@ impl Session {
 
     // Carries out one line and prints what it did: nothing for a blank line and for a comment.
     pub fn line(&mut self, line: &[u8], out: &mut Vec<u8>) -> Result<(), AllocError>
-        ensures prints { Appends (printed (one_more self.old.read) line.now) out.old.items out.new.items result }
-        ensures counts { OnOk result (self.new ≡ counted self.old (words line.now)) }
+        ensures prints { Appends (printed (run_of self.old) line.now) out.old.items out.new.items result }
+        ensures counts { OnOk result (run_of self.new ≡ done (run_of self.old) (words line.now)) }
     {
         self.read = self.read.saturating_add(1);
         let Some((verb, rest)) = next_word(line) else {
@@ -79,16 +82,16 @@ impl Session {
     }
 
     // Carries out line after line until the text is at its end or `enough` bytes are printed, and hands back
-    // what is left. However a script is run piece by piece, the same is printed and counted in the end.
+    // what is left. However a script is run piece by piece, the same is printed and done in the end.
     #[tactic(auto, using(crate::proofs::NoLine::no_bytes))]
-    pub fn run<'a>(
+    pub fn run<'t>(
         &mut self,
-        text: &'a [u8],
+        text: &'t [u8],
         enough: usize,
         out: &mut Vec<u8>,
-    ) -> Result<&'a [u8], AllocError>
-        ensures prints { IfOk result (λ rest. out.new.items ++ all_printed self.new.read (lines rest.now) ≡ out.old.items ++ all_printed self.old.read (lines text.now)) }
-        ensures counts { IfOk result (λ rest. all_counted self.new (lines rest.now) ≡ all_counted self.old (lines text.now)) }
+    ) -> Result<&'t [u8], AllocError>
+        ensures prints { IfOk result (λ rest. out.new.items ++ all_printed (run_of self.new) (lines rest.now) ≡ out.old.items ++ all_printed (run_of self.old) (lines text.now)) }
+        ensures counts { IfOk result (λ rest. all_done (run_of self.new) (lines rest.now) ≡ all_done (run_of self.old) (lines text.now)) }
         ensures forward { IfOk result (λ rest. vec_len out.old < enough → 0 < length text.now → length rest.now < length text.now) }
         ensures stops { IfOk result (λ rest. 0 < length rest.now → enough ≤ vec_len out.new) }
     {
@@ -104,15 +107,14 @@ impl Session {
 
     // The last line that is printed.
     pub fn close(&self, out: &mut Vec<u8>) -> Result<(), AllocError>
-        ensures { Appends (closing_text self.now.echoed 0 self.now.misread) out.old.items out.new.items result }
+        ensures { Appends (closing_text (run_of self.now).echoed (run_of self.now).refused (run_of self.now).misread) out.old.items out.new.items result }
     {
-        // no line makes a call that can be refused yet
-        answers::closing(out, self.echoed, 0, self.misread)
+        answers::closing(out, self.echoed, self.refused, self.misread)
     }
 
     // Whether every line so far was understood.
     pub fn all_understood(&self) -> bool
-        ensures { result ≡ (self.now.misread == 0) }
+        ensures { result ≡ ((run_of self.now).misread == 0) }
     {
         self.misread == 0
     }

@@ -4,6 +4,7 @@
 ghost use Rattle.std.specs.Prelude.{◌≡◌, vec_len, OnOk};
 
 use anyhow::anyhow;
+use session::memory::TableMemory;
 use session::session::Session;
 use std::io::{Read, Write};
 use std::process::ExitCode;
@@ -51,9 +52,8 @@ fn write_out(rt: &HostRuntime, out: &mut Vec<u8>) -> io::Result<()>
     Ok(())
 }
 
-// Carries out every line and tells whether all were understood.
-fn run(rt: &HostRuntime, text: &[u8]) -> anyhow::Result<bool> {
-    let mut session = Session::new();
+// Carries out every line, writes out what was printed, and tells whether all were understood.
+fn run(rt: &HostRuntime, session: &mut Session<'_>, text: &[u8]) -> anyhow::Result<bool> {
     let mut out = Vec::new(rt.alloc());
     let mut rest = text;
     while !rest.is_empty() {
@@ -65,10 +65,18 @@ fn run(rt: &HostRuntime, text: &[u8]) -> anyhow::Result<bool> {
     Ok(session.all_understood())
 }
 
+// Runs a session over memory of its own.
+fn run_session(rt: &HostRuntime, text: &[u8]) -> anyhow::Result<bool> {
+    let mut memory = TableMemory::new(rt.alloc())?;
+    let mut session =
+        Session::new(memory.lend()).ok_or(anyhow!("no memory for a row table"))?;
+    run(rt, &mut session, text)
+}
+
 // Runs the script and tells whether every line was understood. What went wrong is said where it is known.
 fn carry_out(rt: &HostRuntime) -> anyhow::Result<bool> {
     let text = read_script(rt)?;
-    match run(rt, text.as_slice()) {
+    match run_session(rt, text.as_slice()) {
         Ok(understood) => Ok(understood),
         Err(e) => {
             eprintln!(rt; "typebook: {e}")?;

@@ -1,13 +1,17 @@
 // Runs stored scripts, those among them that are not understood, and prints what typebook prints for each.
 #![tactic(auto)]
 
+use anyhow::anyhow;
+use session::memory::TableMemory;
 use session::session::Session;
 use std::fs;
 use std::io::Write;
 
 fn show(rt: &HostRuntime, path: &str) -> anyhow::Result<()> {
     let text = fs::read(rt, path)?;
-    let mut session = Session::new();
+    let mut memory = TableMemory::new(rt.alloc())?;
+    let mut session =
+        Session::new(memory.lend()).ok_or(anyhow!("no memory for a row table"))?;
     let mut out = Vec::new(rt.alloc());
     let _rest = session.run(text.as_slice(), usize::MAX, &mut out)?;
     session.close(&mut out)?;

@@ -1,0 +1,3 @@
+pub mod NoLine
+pub mod Troubles
+pub mod Added
