@@ -1,12 +1,15 @@
 -- What the words behind the first of a line say, or why they say nothing.
 -- Assumes nothing.
-use Rattle.std.specs.Prelude.{◌≡◌, ℕ, ◌^◌, List, Ok, Err, Result}
+use Rattle.std.specs.Prelude.{◌≡◌, ℕ, ◌^◌, not, List, [], ◌∷◌, None, Ok, Err, Option, Result, ◌==◌}
+use Rattle.std.specs.Bool.{then_some}
+use Rattle.std.specs.Borrow.{Bor}
 use Rattle.std.specs.Option.{ok_or, option_map}
 use Rattle.script.specs.Names.{named}
-use Rattle.script.specs.Numbers.{number_below}
-use Rattle.script.specs.Words.{only_of}
+use Rattle.script.specs.Numbers.{number_below, signed_number}
+use Rattle.script.specs.Words.{only_of, words}
 use Rattle.transcript.specs.declared.answers.Reason.{Reason}
-use Rattle.transcript.specs.declared.answers.Reason.TheVariants.{WordCount, NotANumber, NotAName}
+use Rattle.transcript.specs.declared.answers.Reason.TheVariants.{WordCount, NotANumber, NotAnAttributeNumber, NotAName, NotACode}
+use Rattle.type_info.specs.declared.oid.AttributeNumber.{AttributeNumber}
 use Rattle.type_info.specs.declared.oid.Oid.{Oid}
 use Rattle.lines.specs.declared.trouble.Trouble.{Trouble}
 use Rattle.lines.specs.declared.trouble.Trouble.TheVariants.{NotUnderstood, OutOfMemory}
@@ -27,12 +30,40 @@ Reads view told (Ok x) = told ≡ Ok (view x)
 Reads view told (Err (NotUnderstood why)) = told ≡ Err why
 Reads view told (Err (OutOfMemory e)) = Unit {0}
 
--- the only word behind the first; an OID; a name; each or why it is none
+-- the only one of some words, or why there is none
 abbrev pub only_word : List (List ℕ) → Result (List ℕ) Reason
 only_word ws = ok_or (only_of ws) WordCount
 
-abbrev pub oid_read : List ℕ → Result Oid Reason
-oid_read word = ok_or (option_map (λ n. record { 0 = n }) (number_below (2 ^ 32) word)) NotANumber
+abbrev pub OnlyRead : List (List ℕ) → Result (Bor (List ℕ)) Reason → Type 0
+OnlyRead ws (Ok word) = ws ≡ word.now ∷ []
+OnlyRead ws (Err why) = (only_of ws ≡ None) × (why ≡ WordCount)
 
+-- the first of some words, and a rest that has the others
+abbrev pub FirstRead : List (List ℕ) → Result (Bor (List ℕ) × Bor (List ℕ)) Reason → Type 0
+FirstRead ws (Ok found) = ws ≡ found.0.now ∷ words found.1.now
+FirstRead ws (Err why) = (ws ≡ []) × (why ≡ WordCount)
+
+-- a number; an OID; an OID where 0 (the number) says that it is absent; an attribute number
+abbrev pub number_read : List ℕ → Result ℕ Reason
+number_read word = ok_or (number_below (2 ^ 32) word) NotANumber
+
+abbrev pub oid_read : List ℕ → Result Oid Reason
+oid_read word = seen (λ n. record { 0 = n }) (number_read word)
+
+abbrev pub link_read : List ℕ → Result (Option Oid) Reason
+link_read word = seen (λ o. then_some (not (o.0 == 0)) o) (oid_read word)
+
+abbrev pub attribute_number_read : List ℕ → Result AttributeNumber Reason
+attribute_number_read word = ok_or (option_map (λ n. record { 0 = n }) (signed_number word)) NotAnAttributeNumber
+
+-- a name; a code, which is one byte written as a name
 abbrev pub name_read : List ℕ → Result (List ℕ) Reason
 name_read word = ok_or (named word) NotAName
+
+abbrev pub one_byte : List ℕ → Result ℕ Reason
+one_byte [] = Err NotACode
+one_byte (b ∷ []) = Ok b
+one_byte (b ∷ (c ∷ bs)) = Err NotACode
+
+abbrev pub code_read : List ℕ → Result ℕ Reason
+code_read word = onward (name_read word) one_byte

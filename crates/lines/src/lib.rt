@@ -1,6 +1,10 @@
 // What the lines of a script ask for: the words behind the first, read into values, or why they are not understood.
 #![tactic(auto)]
 
+pub mod additions;
+pub mod catalogs;
 pub mod entry;
+pub mod host;
+pub mod row;
 pub mod trouble;
 pub mod word;

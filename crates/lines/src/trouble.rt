@@ -1,10 +1,11 @@
 // Why a line has no answer.
 ghost use Rattle.std.specs.Prelude.{◌≡◌, Some};
+ghost use Rattle.std.specs.declared.alloc.AllocError.{AllocError};
 ghost use Rattle.lines.specs.Trouble.{name_trouble, trouble_text};
 ghost use Rattle.lines.specs.declared.trouble.Trouble.TheVariants.{NotUnderstood, OutOfMemory};
 
 use script::names::NameFault;
-use std::alloc::AllocError;
+use std::alloc::{AllocError, AllocFailed};
 use std::error::Error;
 use std::fmt;
 use transcript::answers::Reason;
@@ -52,5 +53,13 @@ impl From<AllocError> for Trouble {
 
     fn from(e: AllocError) -> Trouble {
         Trouble::OutOfMemory(e)
+    }
+}
+
+impl<T: Drop> From<AllocFailed<T>> for Trouble {
+    ghost from_gives = { λ e r. (a : AllocError) × (r ≡ OutOfMemory a) };
+
+    fn from(e: AllocFailed<T>) -> Trouble {
+        Trouble::OutOfMemory(AllocError::from(e))
     }
 }
