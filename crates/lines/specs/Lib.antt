@@ -5,3 +5,4 @@ pub mod Host
 pub mod Catalogs
 pub mod Additions
 pub mod Rows
+pub mod Verbs

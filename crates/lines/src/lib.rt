@@ -7,4 +7,5 @@ pub mod entry;
 pub mod host;
 pub mod row;
 pub mod trouble;
+pub mod verb;
 pub mod word;

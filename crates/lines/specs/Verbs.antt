@@ -1,0 +1,20 @@
+-- What kind of line it is, by its first word.
+-- Assumes nothing.
+use Rattle.std.specs.Prelude.{ℕ, if◌then◌else◌, List, Ok, Err, codes, Result}
+use Rattle.std.specs.Str.{bytes_eq}
+use Rattle.transcript.specs.declared.answers.Reason.{Reason}
+use Rattle.transcript.specs.declared.answers.Reason.TheVariants.{NoSuchLine}
+use Rattle.lines.specs.declared.verb.Verb.{Verb}
+use Rattle.lines.specs.declared.verb.Verb.TheVariants.{Use, Allowance, Row, Name, Column, Element, Builtin, BuiltinName}
+
+abbrev pub verb_read : List ℕ → Result Verb Reason
+verb_read word =
+    if bytes_eq word (codes "use") then Ok Use
+    else if bytes_eq word (codes "allowance") then Ok Allowance
+    else if bytes_eq word (codes "row") then Ok Row
+    else if bytes_eq word (codes "name") then Ok Name
+    else if bytes_eq word (codes "column") then Ok Column
+    else if bytes_eq word (codes "element") then Ok Element
+    else if bytes_eq word (codes "builtin") then Ok Builtin
+    else if bytes_eq word (codes "builtin-name") then Ok BuiltinName
+    else Err NoSuchLine
