@@ -1,5 +1,5 @@
 -- What a line that adds to the row table answers. Assumes nothing.
-use Rattle.std.proofs.Common.{◌≡◌, ℕ, Bool, List, Ok, Err, Result, refl, ap, sym, ◌∙◌, MatchResult, is_err}
+use Rattle.std.proofs.Common.{◌≡◌, ℕ, Bool, List, Ok, Err, Result, ap, sym, ◌∙◌, MatchResult, is_err}
 use Rattle.catalog.specs.declared.faults.CatalogFault.{CatalogFault}
 use Rattle.lines.specs.declared.trouble.Trouble.{Trouble}
 use Rattle.lines.specs.declared.trouble.Trouble.TheVariants.{NotUnderstood, OutOfMemory}

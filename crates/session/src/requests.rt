@@ -65,7 +65,9 @@ impl<'a> Catalogs<'a> {
         ensures { Replies (name_reply (held_by self.old) (words rest.now)) out.old.items out.new.items (held_by self.old) (held_by self.new) result }
     {
         let line = NameLine::read(rest, *out.allocator())?;
-        let outcome = self.rows.add_name(line.host.as_slice(), line.name, line.oid);
+        let outcome = self
+            .rows
+            .add_name(line.host.as_slice(), line.name, line.oid);
         tell_outcome(out, Addition::Name, outcome)
     }
 

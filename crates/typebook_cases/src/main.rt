@@ -20,7 +20,15 @@ fn show(rt: &HostRuntime, path: &str) -> anyhow::Result<()> {
 }
 
 fn main(rt: HostRuntime) -> anyhow::Result<()> {
-    show(&rt, "known.script")?;
-    show(&rt, "garbled.script")?;
+    for script in [
+        "known.script",
+        "garbled.script",
+        "refusals.script",
+        "limits.script",
+        "spans.script",
+        "parts.script",
+    ] {
+        show(&rt, script)?;
+    }
     Ok(())
 }

@@ -23,5 +23,5 @@ returns c =
     let answer = sym c.add_row-outcome.ensures.answer in
     let held = sym c.add_row-outcome.ensures.held in
     let told : row_reply was (words c.args.rest.now) ≡ Ok (addition_reply was Row c.add_row-outcome.result (held_of c.add_row-outcome.new.self)) =
-      ap (seen (λ l. by l.0 l.1)) c.in_ok-line.ensures ∙ (λ i. Ok (by (host i) (offer i))) ∙ (λ i. Ok (addition_reply was Row (answer i) (held i))) in
+    ap (seen (λ l. by l.0 l.1)) c.in_ok-line.ensures ∙ (λ i. Ok (by (host i) (offer i))) ∙ (λ i. Ok (addition_reply was Row (answer i) (held i))) in
     added _ _ Row _ _ _ _ _ told c.tell_outcome.ensures

@@ -1,4 +1,4 @@
-use Rattle.std.proofs.Common.{rules, ◌≡◌, Ok, ap, sym, ◌∙◌}
+use Rattle.std.proofs.Common.{rules, ◌≡◌, Ok}
 use Rattle.lines.specs.Catalogs.{use_line}
 use Rattle.script.specs.Words.{words}
 use Rattle.transcript.specs.Printed.{in_use_text}
