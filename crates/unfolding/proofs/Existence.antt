@@ -1,12 +1,12 @@
 -- An unfolding exists exactly where no row is missing or malformed and no links go round. Assumes nothing.
 use Rattle.std.proofs.Common.{◌≡◌, ℕ, zero, suc, ◌+◌, ◌<◌, ◌≤◌, true, false, ◌⊎◌, List, [], ◌∷◌, length, Some, sym, refl, ap, subst, inl, inr, ⊎_elim, arith}
 use Rattle.std.proofs.lemmas.Bool.{cases_Bool}
-use Rattle.unfolding.specs.Lists.{Mem}
+use Rattle.unfolding.specs.Lists.{Mem, Distinct}
 use Rattle.catalog.specs.Catalog.{Catalog}
 use Rattle.catalog.specs.Shape.{Shape, formed}
 use Rattle.unfolding.specs.Unfolding.{Tree, built, node, Trees, none, more, Link, Unfolds, UnfoldAll, HasUnfolding, Leads, itself, onward, built_in}
 use Rattle.unfolding.specs.Laws.{GoesRound, Exists}
-use Rattle.unfolding.proofs.Lists.{Distinct, pigeon}
+use Rattle.unfolding.proofs.Lists.{pigeon}
 use Rattle.unfolding.proofs.Unfolding.{unique, link-has}
 
 abbrev mutual

@@ -1,12 +1,7 @@
 -- Lists of numbers, and choices. Assumes nothing.
 use Rattle.std.proofs.Common.{◌≡◌, ℕ, suc, ◌≤◌, Bool, true, false, eqb, List, [], ◌∷◌, length, sym, refl, ap, ◌∙◌, subst, inl, inr, ⊎_elim, arith}
 use Rattle.std.proofs.lemmas.Bool.{cases_Bool, eqb-true, eq-eqb}
-use Rattle.unfolding.specs.Lists.{Mem}
-
--- no number twice
-abbrev pub Distinct : List ℕ → Type 0
-Distinct [] = Unit {0}
-Distinct (x ∷ xs) = (Mem x xs → ⊥) × Distinct xs
+use Rattle.unfolding.specs.Lists.{Mem, Distinct}
 
 without : ℕ → List ℕ → List ℕ
 without x [] = []

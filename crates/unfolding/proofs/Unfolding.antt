@@ -1,9 +1,10 @@
 -- An OID has at most one unfolding, and keeps it as the catalog grows. Assumes nothing.
-use Rattle.std.proofs.Common.{◌≡◌, ℕ, false, List, [], ◌∷◌, Some, None, Option, sym, refl, ap, ◌∙◌, subst, inl, inr}
+use Rattle.std.proofs.Common.{◌≡◌, ℕ, false, not, ◌&&◌, ◌==◌, List, [], ◌∷◌, Some, None, Option, sym, refl, ap, ◌∙◌, subst, inl, inr}
 use Rattle.std.specs.Option.{option_and_then}
+use Rattle.std.proofs.lemmas.Bool.{cond_both}
 use Rattle.unfolding.specs.Lists.{Mem}
 use Rattle.catalog.specs.Catalog.{Catalog, CatalogRow, Grows}
-use Rattle.catalog.specs.Shape.{Shape, shape, formed}
+use Rattle.catalog.specs.Shape.{Shape, Head, domain, array, range, codes_listed, linked, shape, formed}
 use Rattle.unfolding.specs.Unfolding.{Tree, built, node, Trees, none, more, Link, Unfolds, UnfoldAll, HasUnfolding, built_in}
 
 pub formed-row : (c : Catalog) (o : ℕ) (s : Shape) → formed c o ≡ Some s → (r : CatalogRow) × (c.rows o ≡ Some r) × (shape r ≡ Some s)
@@ -63,3 +64,24 @@ link-has c o p (built q) nb h l = absurd cc
 link-has c o p (node q n d ts) nb h l =
     let same : l.0 ≡ h.0 = cc in
     all_have c h.0.links ts p h.6 (subst (λ (s : Shape). Mem p s.links) same l.2)
+
+-- a shape has the row's pretty name
+pub shape-name : (r : CatalogRow) (s : Shape) → shape r ≡ Some s → s.name ≡ r.pretty
+unfolding shape
+shape-name r s e =
+    subst Named e
+    (cond_both (not (codes_listed r)) None _ Named (λ _. tt)
+    (λ _. cond_both (r.typtype == 100) _ _ Named (λ _. link domain r.typbasetype)
+    (λ _. cond_both (r.typtype == 98 && r.typcategory == 65) _ _ Named (λ _. link array r.typelem)
+    (λ _. cond_both (r.typtype == 112) _ _ Named (λ _. refl)
+    (λ _. cond_both (r.typtype == 114) _ _ Named (λ _. link range r.rngsubtype)
+    (λ _. cond_both (r.typtype == 101) _ _ Named (λ _. refl)
+    (λ _. cond_both (r.typtype == 99) _ _ Named (λ _. refl) (λ _. refl))))))))
+  where
+    Named : Option Shape → Type 0
+    Named None = Unit {0}
+    Named (Some k) = k.name ≡ r.pretty
+
+    link : (h : Head) (o : Option ℕ) → Named (linked r h o)
+    link h None = tt
+    link h (Some o) = refl

@@ -1,0 +1,113 @@
+-- Tests that agree with statements: membership, absence, and the first place.
+-- Assumes nothing.
+use Rattle.std.proofs.Common.{◌++◌, ◌↔◌, ◌∙◌, ◌∷◌, ◌≡◌, ◌⊎◌, Bool, List, None, Option, Some, [], ap, bytes_eq, eq-eqb, eqb-true, false, inl, inr, is_some, nat_eq, refl, subst, suc, sym, true, ℕ, ⊎_elim}
+use Rattle.std.proofs.lemmas.Bool.{cases_Bool, or_cases, or_left, or_right}
+use Rattle.std.proofs.lemmas.Slice.Eq.{bytes_eq-Decides}
+use Rattle.unfolding.specs.Lists.{Distinct, Mem}
+use Rattle.life.specs.Lists.{Among, FirstAt, first_place, is_in}
+
+pub not_both : {b : Bool} → b ≡ true → b ≡ false → ⊥
+not_both {b} p q = absurd cc
+
+pub not_some_none : {A : Type 0} {x : Option A} (a : A) → x ≡ Some a → x ≡ None → ⊥
+not_some_none {A} {x} a p q = absurd cc
+
+pub same_some : {A : Type 0} {x : Option A} {a b : A} → x ≡ Some a → x ≡ Some b → a ≡ b
+same_some {A} {x} {a} {b} p q = cc
+
+pub split_option : {A : Type 0} (x : Option A) → (x ≡ None) ⊎ ((a : A) × (x ≡ Some a))
+split_option None = inl refl
+split_option (Some a) = inr (a, refl)
+
+pub is_none_if : {A : Type 0} (x : Option A) → is_some x ≡ false → x ≡ None
+is_none_if None e = refl
+is_none_if (Some a) e = absurd cc
+
+pub is_some_if : {A : Type 0} (x : Option A) → is_some x ≡ true → (a : A) × (x ≡ Some a)
+is_some_if None e = absurd cc
+is_some_if (Some a) e = (a, refl)
+
+-- two tests that pass together are one
+pub same_truth : (x y : Bool) → (x ≡ true → y ≡ true) → (y ≡ true → x ≡ true) → x ≡ y
+same_truth true y f g = sym (f refl)
+same_truth false true f g = g refl
+same_truth false false f g = refl
+
+pub bytes_same : (xs ys : List ℕ) → bytes_eq xs ys ≡ true → xs ≡ ys
+bytes_same xs ys = (bytes_eq-Decides xs ys).0
+
+pub same_bytes : (xs ys : List ℕ) → xs ≡ ys → bytes_eq xs ys ≡ true
+same_bytes xs ys = (bytes_eq-Decides xs ys).1
+
+pub in_mem : (o : ℕ) (os : List ℕ) → is_in o os ≡ true → Mem o os
+in_mem o [] e = absurd cc
+in_mem o (p ∷ ps) e = ⊎_elim (λ x. inl (eqb-true o p x)) (λ x. inr (in_mem o ps x)) (or_cases (nat_eq o p) (is_in o ps) e)
+
+pub mem_in : (o : ℕ) (os : List ℕ) → Mem o os → is_in o os ≡ true
+mem_in o [] m = absurd m
+mem_in o (p ∷ ps) (inl e) = or_left (nat_eq o p) (is_in o ps) (eq-eqb o p e)
+mem_in o (p ∷ ps) (inr m) = or_right (nat_eq o p) (is_in o ps) (mem_in o ps m)
+
+pub cases_mem : (o : ℕ) (os : List ℕ) → Mem o os ⊎ (Mem o os → ⊥)
+cases_mem o os = ⊎_elim (λ e. inl (in_mem o os e)) (λ e. inr (λ m. not_both (mem_in o os m) e)) (cases_Bool (is_in o os))
+
+pub mem_left : (o : ℕ) (xs ys : List ℕ) → Mem o xs → Mem o (xs ++ ys)
+mem_left o [] ys m = absurd m
+mem_left o (x ∷ xs) ys (inl e) = inl e
+mem_left o (x ∷ xs) ys (inr m) = inr (mem_left o xs ys m)
+
+pub mem_right : (o : ℕ) (xs ys : List ℕ) → Mem o ys → Mem o (xs ++ ys)
+mem_right o [] ys m = m
+mem_right o (x ∷ xs) ys m = inr (mem_right o xs ys m)
+
+pub mem_split : (o : ℕ) (xs ys : List ℕ) → Mem o (xs ++ ys) → Mem o xs ⊎ Mem o ys
+mem_split o [] ys m = inr m
+mem_split o (x ∷ xs) ys (inl e) = inl (inl e)
+mem_split o (x ∷ xs) ys (inr m) = ⊎_elim (λ l. inl (inr l)) (λ r. inr r) (mem_split o xs ys m)
+
+pub distinct_append : (xs ys : List ℕ) → Distinct xs → Distinct ys → ((o : ℕ) → Mem o xs → Mem o ys → ⊥) → Distinct (xs ++ ys)
+distinct_append [] ys p q apart = q
+distinct_append (x ∷ xs) ys p q apart =
+    (λ m. ⊎_elim p.0 (apart x (inl refl)) (mem_split x xs ys m), distinct_append xs ys p.1 q (λ o m. apart o (inr m)))
+
+-- the first place of a test that agrees with P on the list
+module _ {A : Type 0} (test : A → Bool) (P : A → Type 0) where
+  abbrev pub Agree : List A → Type 0
+  Agree xs = (x : A) → Among x xs → (test x ≡ true) ↔ P x
+
+  place_yes : (i : ℕ) (x : A) (xs : List A) → test x ≡ true → first_place test i (x ∷ xs) ≡ Some i
+  place_yes i x xs e = ap (λ (v : Bool). elim v as (λ _. Option ℕ) [ true ↦ Some i | false ↦ first_place test (suc i) xs ]) e
+
+  place_no : (i : ℕ) (x : A) (xs : List A) → test x ≡ false → first_place test i (x ∷ xs) ≡ first_place test (suc i) xs
+  place_no i x xs e = ap (λ (v : Bool). elim v as (λ _. Option ℕ) [ true ↦ Some i | false ↦ first_place test (suc i) xs ]) e
+
+  pub place_first : (xs : List A) → Agree xs → (i j : ℕ) → (first_place test i xs ≡ Some j) ↔ FirstAt P i xs j
+  place_first [] g i j = (λ e. not_some_none j e refl, λ x. absurd x)
+  place_first (x ∷ xs) g i j =
+      let later = place_first xs (λ y m. g y (inr m)) (suc i) j in
+      let here = g x (inl refl) in
+      ⊎_elim
+      (λ y. (
+        λ e. inl (same_some (place_yes i x xs y) e, here.0 y),
+        ⊎_elim (λ z. place_yes i x xs y ∙ ap (λ k. Some k) z.0) (λ z. absurd (z.0 (here.0 y))),
+      ))
+      (λ n. (
+        λ e. inr (λ p. not_both (here.1 p) n, later.0 (sym (place_no i x xs n) ∙ e)),
+        ⊎_elim (λ z. absurd (not_both (here.1 z.1) n)) (λ z. place_no i x xs n ∙ later.1 z.1),
+      ))
+      (cases_Bool (test x))
+
+  pub place_some : (xs : List A) → Agree xs → (i : ℕ) → ((j : ℕ) × (first_place test i xs ≡ Some j)) ↔ ((x : A) × Among x xs × P x)
+  place_some [] g i = (λ e. absurd (not_some_none e.0 e.1 refl), λ x. absurd x.1)
+  place_some (x ∷ xs) g i =
+      let later = place_some xs (λ y m. g y (inr m)) (suc i) in
+      let here = g x (inl refl) in
+      ⊎_elim
+      (λ y. (λ e. (x, inl refl, here.0 y), λ z. (i, place_yes i x xs y)))
+      (λ n. (
+        λ e. let z = later.0 (e.0, sym (place_no i x xs n) ∙ e.1) in (z.0, inr z.1, z.2),
+        λ z.
+            let z' = later.1 (z.0, ⊎_elim (λ q. absurd (not_both (here.1 (subst P q z.2)) n)) (λ m. m) z.1, z.2) in
+            (z'.0, place_no i x xs n ∙ z'.1),
+      ))
+      (cases_Bool (test x))

@@ -1,0 +1,90 @@
+-- The rounds as lists. Assumes nothing.
+use Rattle.std.proofs.Common.{◌++◌, ◌≡◌, ◌⊎◌, List, [], inl, inr, suc, zero, ℕ, ⊎_elim}
+use Rattle.catalog.specs.Catalog.{Catalog}
+use Rattle.unfolding.specs.Lists.{Distinct, Mem}
+use Rattle.unfolding.specs.Unfolding.{Link}
+use Rattle.life.specs.Rounds.{Before, Descriptors, Layer, Unknown}
+use Rattle.life.specs.Stops.{earlier, standing}
+use Rattle.life.specs.Walk.{answered, links_of, push_all}
+use Rattle.life.proofs.Fresh.{answered_not, fresh_distinct, fresh_has, has_fresh, have_links, links_have, pushed, unanswered}
+use Rattle.life.proofs.Lists.{cases_mem, distinct_append, mem_left, mem_right, mem_split}
+
+module _ (c : Catalog) (b : Descriptors) (rs : List ℕ) where
+  abbrev pub layer : ℕ → List ℕ
+  layer = standing c b rs
+
+  abbrev pub before : ℕ → List ℕ
+  before = earlier c b rs
+
+  mutual
+    pub layer_stands : (k o : ℕ) → Mem o (layer k) → Layer c b rs k o
+    layer_stands zero o m =
+        let h = fresh_has (answered b) rs [] o m in
+        (h.0, unanswered b o h.1)
+    layer_stands (suc k) o m =
+        let h = fresh_has (answered b) (links_of c (layer k)) (before k ++ layer k) o m in
+        let l = links_have c (layer k) o h.0 in (
+          (l.0, layer_stands k l.0 l.1, l.2),
+          unanswered b o h.1,
+          λ x. h.2 (mem_left o (before k) (layer k) (before_in k o x)),
+          λ x. h.2 (mem_right o (before k) (layer k) (stands_layer k o x)),
+        )
+
+    pub stands_layer : (k o : ℕ) → Layer c b rs k o → Mem o (layer k)
+    stands_layer zero o h = has_fresh (answered b) rs [] o h.0 (answered_not b o h.1) (λ x. x)
+    stands_layer (suc k) o h =
+        has_fresh (answered b) (links_of c (layer k)) (before k ++ layer k) o
+        (have_links c (layer k) h.0.0 o (stands_layer k h.0.0 h.0.1) h.0.2)
+        (answered_not b o h.1)
+        (λ m. ⊎_elim (λ x. h.2 (in_before k o x)) (λ x. h.3 (layer_stands k o x)) (mem_split o (before k) (layer k) m))
+
+    pub in_before : (k o : ℕ) → Mem o (before k) → Before c b rs k o
+    in_before zero o m = m
+    in_before (suc k) o m = ⊎_elim (λ x. inl (in_before k o x)) (λ x. inr (layer_stands k o x)) (mem_split o (before k) (layer k) m)
+
+    pub before_in : (k o : ℕ) → Before c b rs k o → Mem o (before k)
+    before_in zero o m = m
+    before_in (suc k) o m = ⊎_elim (λ x. mem_left o (before k) (layer k) (before_in k o x)) (λ x. mem_right o (before k) (layer k) (stands_layer k o x)) m
+
+  pub dec_layer : (k o : ℕ) → Layer c b rs k o ⊎ (Layer c b rs k o → ⊥)
+  dec_layer k o = ⊎_elim (λ m. inl (layer_stands k o m)) (λ n. inr (λ h. n (stands_layer k o h))) (cases_mem o (layer k))
+
+  pub dec_before : (k o : ℕ) → Before c b rs k o ⊎ (Before c b rs k o → ⊥)
+  dec_before k o = ⊎_elim (λ m. inl (in_before k o m)) (λ n. inr (λ h. n (before_in k o h))) (cases_mem o (before k))
+
+  pub stood : (k o : ℕ) → Before c b rs k o → (j : ℕ) × Layer c b rs j o
+  stood zero o h = absurd h
+  stood (suc k) o (inl h) = stood k o h
+  stood (suc k) o (inr h) = (k, h)
+
+  -- a link of what stands, itself unknown, stands in some round
+  pub link_stands : (k p o : ℕ) → Layer c b rs k p → Link c p o → Unknown b o → (j : ℕ) × Layer c b rs j o
+  link_stands k p o h l u =
+      ⊎_elim
+      (λ x. stood k o x)
+      (λ nb. ⊎_elim (λ x. (k, x)) (λ nl. (suc k, ((p, h, l), u, nb, nl))) (dec_layer k o))
+      (dec_before k o)
+
+  pub layer_unknown : (k o : ℕ) → Layer c b rs k o → Unknown b o
+  layer_unknown zero o h = h.1
+  layer_unknown (suc k) o h = h.1
+
+  layer_distinct : (k : ℕ) → Distinct (layer k)
+  layer_distinct zero = fresh_distinct (answered b) rs []
+  layer_distinct (suc k) = fresh_distinct (answered b) (links_of c (layer k)) (before k ++ layer k)
+
+  layer_apart : (k o : ℕ) → Mem o (layer k) → Mem o (before k) → ⊥
+  layer_apart zero o m n = n
+  layer_apart (suc k) o m n = (fresh_has (answered b) (links_of c (layer k)) (before k ++ layer k) o m).2 n
+
+  -- each OID stands once
+  pub before_distinct : (k : ℕ) → Distinct (before k)
+  before_distinct zero = tt
+  before_distinct (suc k) = distinct_append (before k) (layer k) (before_distinct k) (layer_distinct k) (λ o m n. layer_apart k o n m)
+
+  -- the same by a queue: what code does that pushes each new OID
+  pub queue_first : push_all (answered b) [] rs ≡ before 1
+  queue_first = pushed (answered b) rs []
+
+  pub queue_next : (k : ℕ) → push_all (answered b) (before (suc k)) (links_of c (layer k)) ≡ before (suc (suc k))
+  queue_next k = pushed (answered b) (links_of c (layer k)) (before (suc k))

@@ -1,0 +1,26 @@
+-- Lists: a test of membership, how many numbers have a property, and the place of the first element that has one.
+-- Assumes nothing.
+use Rattle.std.specs.Prelude.{◌∷◌, ◌≡◌, ◌≤◌, ◌⊎◌, Bool, List, None, Option, Some, [], false, length, nat_eq, suc, true, ℕ}
+use Rattle.std.specs.List.{list_any}
+use Rattle.unfolding.specs.Lists.{Distinct, Mem}
+
+abbrev pub is_in : ℕ → List ℕ → Bool
+is_in o os = list_any (nat_eq o) os
+
+-- no more than m numbers are P
+abbrev pub AtMost : ℕ → (ℕ → Type 0) → Type 0
+AtMost m P = (os : List ℕ) → Distinct os → ((o : ℕ) → Mem o os → P o) → length os ≤ m
+
+abbrev pub Among : {A : Type 0} → A → List A → Type 0
+Among x [] = ⊥
+Among x (y ∷ ys) = (x ≡ y) ⊎ Among x ys
+
+-- the place of the first element that passes the test, counted from i
+abbrev pub first_place : {A : Type 0} → (A → Bool) → ℕ → List A → Option ℕ
+first_place test i [] = None
+first_place test i (x ∷ xs) = elim (test x) [ true ↦ Some i | false ↦ first_place test (suc i) xs ]
+
+-- the place, counted from i, of the first element of which P holds is j
+abbrev pub FirstAt : {A : Type 0} → (A → Type 0) → ℕ → List A → ℕ → Type 0
+FirstAt P i [] j = ⊥
+FirstAt P i (x ∷ xs) j = ((i ≡ j) × P x) ⊎ ((P x → ⊥) × FirstAt P (suc i) xs j)
