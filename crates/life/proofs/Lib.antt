@@ -1,4 +1,7 @@
 mod Lists
 mod Fresh
-mod Rounds
+mod Standing
 mod Life
+mod Asking
+mod Walk
+mod Ends

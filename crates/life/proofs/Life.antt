@@ -1,5 +1,5 @@
 -- The law of a book's life. Assumes nothing.
-use Rattle.std.proofs.Common.{◌∙◌, ◌∷◌, ◌≡◌, ◌⊎◌, List, None, Some, [], ap, cond, false, inl, inr, refl, subst, suc, sym, true, zero, ℕ, ⊎_elim}
+use Rattle.std.proofs.Common.{◌∙◌, ◌∷◌, ◌≡◌, ◌⊎◌, List, None, Some, [], ap, bytes_eq, cond, false, inl, inr, is_some, refl, subst, suc, sym, true, zero, ℕ, ⊎_elim}
 use Rattle.std.proofs.lemmas.Bool.{cases_Bool}
 use Rattle.catalog.specs.Catalog.{Catalog, Grows, Laws}
 use Rattle.catalog.specs.Shape.{Head, Name, Shape}
@@ -11,7 +11,7 @@ use Rattle.life.specs.Life.{Agrees, Counted, Earlier, LifetimeLaw, Lived}
 use Rattle.life.specs.Rounds.{Descriptors, Layer, Stands, Unknown}
 use Rattle.life.specs.Steps.{Book, Event, KeepsDescriptors, PrettyName, answer, keeps_finds, wanted}
 use Rattle.life.proofs.Lists.{not_both, not_some_none, same_some, split_option}
-use Rattle.life.proofs.Rounds.{layer_unknown, link_stands}
+use Rattle.life.proofs.Standing.{layer_unknown, link_stands}
 
 abbrev pub Has : Descriptors → ℕ → Type 0
 Has b o = (t : Tree) × (b o ≡ Some t)

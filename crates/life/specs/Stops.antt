@@ -1,7 +1,7 @@
 -- Where a walk stops, in the order in which rows are read, and when it does not.
 -- Assumes nothing.
-use Rattle.std.specs.Prelude.{◌++◌, ◌+◌, ◌<◌, ◌↔◌, ◌∷◌, ◌≡◌, ◌≤◌, ◌⊎◌, List, [], false, length, suc, true, zero, ℕ}
-use Rattle.catalog.specs.Catalog.{Catalog}
+use Rattle.std.specs.Prelude.{◌++◌, ◌+◌, ◌<◌, ◌↔◌, ◌∷◌, ◌≡◌, ◌≤◌, ◌⊎◌, Bool, List, [], false, length, suc, true, zero, ℕ}
+use Rattle.catalog.specs.Catalog.{Catalog, Each}
 use Rattle.unfolding.specs.Lists.{Mem}
 use Rattle.life.specs.Lists.{AtMost}
 use Rattle.life.specs.Rounds.{Descriptors, LastRound, Layer, Stands, StandsOnce}
@@ -31,13 +31,27 @@ module _ (c : Catalog) (b : Descriptors) (rs : List ℕ) where
     pub sane : (k o : ℕ) → Stands c b rs k o → malformed c o ≡ false
     pub few : AtMost 256 (StandsOnce c b rs)
 
+-- the question at which a round stops, where so many rows more may be asked for: none before it is refused, and it is one too
+-- many, 7, or refused, 6
+pub record StopsAt {Q : Type 0} (oid : Q → ℕ) (bad : Q → Bool) (left : ℕ) (qs : List Q) (n p : ℕ) : Type 0 where
+  pub before : List Q
+  pub asked : Q
+  pub behind : List Q
+  pub here : qs ≡ before ++ asked ∷ behind
+  pub place : p ≡ oid asked
+  pub good : Each (λ q. bad q ≡ false) before
+  pub why : ((n ≡ 7) × (length before ≡ left)) ⊎ ((n ≡ 6) × (length before < left) × (bad asked ≡ true))
+
 -- `extra`: how many rows were read in round 1 for their typarray alone, none but in a Resolve
 module _ (c : Catalog) (b : Descriptors) (rs : List ℕ) (extra : ℕ) where
-  -- r rounds are through without offence, and one more is needed
-  pub record Needed (r : ℕ) : Type 0 where
-    pub needed : (o : ℕ) × Mem o (standing c b rs r)
-    pub sane : Sane c b rs (earlier c b rs r)
-    pub few : extra + length (earlier c b rs r) ≤ 256
+  -- k rounds are through without offence, and left more rows may be asked for
+  pub record Through (k left : ℕ) : Type 0 where
+    pub sane : Sane c b rs (earlier c b rs k)
+    pub asked : left + (extra + length (earlier c b rs k)) ≡ 256
+
+  -- and one more round is needed
+  abbrev pub Needed : ℕ → Type 0
+  Needed k = ((left : ℕ) × Through k left) × ((o : ℕ) × Mem o (standing c b rs k))
 
   -- 4 where it would be the 65th
   abbrev pub Round65 : (number place rounds : ℕ) → Type 0
@@ -47,19 +61,11 @@ module _ (c : Catalog) (b : Descriptors) (rs : List ℕ) (extra : ℕ) where
   abbrev pub Poor : (number place rounds : ℕ) → Type 0
   Poor n p r = (n ≡ 5) × (p ≡ suc r) × (r ≡ c.allowance) × (r < 64) × Needed r
 
-  -- in the round now open p stands behind xs, each row before it is well-formed, and it is the 257th, or its row is malformed
-  pub record AtRow (n p r : ℕ) : Type 0 where
-    pub before : ℕ
-    pub xs : List ℕ
-    pub ys : List ℕ
-    pub round : r ≡ suc before
-    pub within : before < 64
-    pub allowed : before < c.allowance
-    pub here : standing c b rs before ≡ xs ++ p ∷ ys
-    pub sane : Sane c b rs (earlier c b rs before ++ xs)
-    pub why :
-        ((n ≡ 7) × (extra + length (earlier c b rs before ++ xs) ≡ 256)) ⊎
-        ((n ≡ 6) × (extra + length (earlier c b rs before ++ xs) < 256) × (malformed c p ≡ true))
+  -- 6 or 7 at a row of the round now open
+  abbrev pub AtRow : (number place rounds : ℕ) → Type 0
+  AtRow n p r =
+      (k left : ℕ) × (r ≡ suc k) × (k < 64) × (k < c.allowance) × Through k left ×
+      StopsAt (λ o. o) (malformed c) left (standing c b rs k) n p
 
   abbrev pub Offence : (number place rounds : ℕ) → Type 0
   Offence n p r = Round65 n p r ⊎ (Poor n p r ⊎ AtRow n p r)

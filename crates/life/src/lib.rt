@@ -1,4 +1,5 @@
 // The laws of a book's life: statements about the definitions of specs/, each asked for by a contract.
 #![tactic(auto)]
 
+mod rounds;
 mod steps;

@@ -1,19 +1,19 @@
 -- The rounds as lists. Assumes nothing.
-use Rattle.std.proofs.Common.{◌++◌, ◌≡◌, ◌⊎◌, List, [], inl, inr, suc, zero, ℕ, ⊎_elim}
+use Rattle.std.proofs.Common.{◌++◌, ◌⊎◌, List, [], inl, inr, suc, zero, ℕ, ⊎_elim}
 use Rattle.catalog.specs.Catalog.{Catalog}
 use Rattle.unfolding.specs.Lists.{Distinct, Mem}
 use Rattle.unfolding.specs.Unfolding.{Link}
-use Rattle.life.specs.Rounds.{Before, Descriptors, Layer, Unknown}
-use Rattle.life.specs.Stops.{earlier, standing}
-use Rattle.life.specs.Walk.{answered, links_of, push_all}
+use Rattle.life.specs.Rounds.{Before, Descriptors, Layer, StandsOnce, Unknown}
+use Rattle.life.specs.Stops.{QueueLaw, StandingLaw, earlier, standing}
+use Rattle.life.specs.Walk.{answered, links_of}
 use Rattle.life.proofs.Fresh.{answered_not, fresh_distinct, fresh_has, has_fresh, have_links, links_have, pushed, unanswered}
 use Rattle.life.proofs.Lists.{cases_mem, distinct_append, mem_left, mem_right, mem_split}
 
 module _ (c : Catalog) (b : Descriptors) (rs : List ℕ) where
-  abbrev pub layer : ℕ → List ℕ
+  abbrev layer : ℕ → List ℕ
   layer = standing c b rs
 
-  abbrev pub before : ℕ → List ℕ
+  abbrev before : ℕ → List ℕ
   before = earlier c b rs
 
   mutual
@@ -46,24 +46,27 @@ module _ (c : Catalog) (b : Descriptors) (rs : List ℕ) where
     before_in zero o m = m
     before_in (suc k) o m = ⊎_elim (λ x. mem_left o (before k) (layer k) (before_in k o x)) (λ x. mem_right o (before k) (layer k) (stands_layer k o x)) m
 
-  pub dec_layer : (k o : ℕ) → Layer c b rs k o ⊎ (Layer c b rs k o → ⊥)
-  dec_layer k o = ⊎_elim (λ m. inl (layer_stands k o m)) (λ n. inr (λ h. n (stands_layer k o h))) (cases_mem o (layer k))
+  cases_layer : (k o : ℕ) → Layer c b rs k o ⊎ (Layer c b rs k o → ⊥)
+  cases_layer k o = ⊎_elim (λ m. inl (layer_stands k o m)) (λ n. inr (λ h. n (stands_layer k o h))) (cases_mem o (layer k))
 
-  pub dec_before : (k o : ℕ) → Before c b rs k o ⊎ (Before c b rs k o → ⊥)
-  dec_before k o = ⊎_elim (λ m. inl (in_before k o m)) (λ n. inr (λ h. n (before_in k o h))) (cases_mem o (before k))
+  cases_before : (k o : ℕ) → Before c b rs k o ⊎ (Before c b rs k o → ⊥)
+  cases_before k o = ⊎_elim (λ m. inl (in_before k o m)) (λ n. inr (λ h. n (before_in k o h))) (cases_mem o (before k))
 
   pub stood : (k o : ℕ) → Before c b rs k o → (j : ℕ) × Layer c b rs j o
   stood zero o h = absurd h
   stood (suc k) o (inl h) = stood k o h
   stood (suc k) o (inr h) = (k, h)
 
+  pub earlier_stands : (k o : ℕ) → Mem o (before k) → StandsOnce c b rs o
+  earlier_stands k o m = let s = stood k o (in_before k o m) in (suc s.0, s.1)
+
   -- a link of what stands, itself unknown, stands in some round
   pub link_stands : (k p o : ℕ) → Layer c b rs k p → Link c p o → Unknown b o → (j : ℕ) × Layer c b rs j o
   link_stands k p o h l u =
       ⊎_elim
       (λ x. stood k o x)
-      (λ nb. ⊎_elim (λ x. (k, x)) (λ nl. (suc k, ((p, h, l), u, nb, nl))) (dec_layer k o))
-      (dec_before k o)
+      (λ nb. ⊎_elim (λ x. (k, x)) (λ nl. (suc k, ((p, h, l), u, nb, nl))) (cases_layer k o))
+      (cases_before k o)
 
   pub layer_unknown : (k o : ℕ) → Layer c b rs k o → Unknown b o
   layer_unknown zero o h = h.1
@@ -78,13 +81,15 @@ module _ (c : Catalog) (b : Descriptors) (rs : List ℕ) where
   layer_apart (suc k) o m n = (fresh_has (answered b) (links_of c (layer k)) (before k ++ layer k) o m).2 n
 
   -- each OID stands once
-  pub before_distinct : (k : ℕ) → Distinct (before k)
-  before_distinct zero = tt
-  before_distinct (suc k) = distinct_append (before k) (layer k) (before_distinct k) (layer_distinct k) (λ o m n. layer_apart k o n m)
+  pub earlier_distinct : (k : ℕ) → Distinct (before k)
+  earlier_distinct zero = tt
+  earlier_distinct (suc k) = distinct_append (before k) (layer k) (earlier_distinct k) (layer_distinct k) (λ o m n. layer_apart k o n m)
 
-  -- the same by a queue: what code does that pushes each new OID
-  pub queue_first : push_all (answered b) [] rs ≡ before 1
-  queue_first = pushed (answered b) rs []
+pub standing_law : StandingLaw
+standing_law c b rs k o = (layer_stands c b rs k o, stands_layer c b rs k o)
 
-  pub queue_next : (k : ℕ) → push_all (answered b) (before (suc k)) (links_of c (layer k)) ≡ before (suc (suc k))
-  queue_next k = pushed (answered b) (links_of c (layer k)) (before (suc k))
+pub queue_law : QueueLaw
+queue_law c b rs = (
+  pushed (answered b) rs [],
+  λ k. pushed (answered b) (links_of c (standing c b rs k)) (earlier c b rs (suc k)),
+)
