@@ -5,3 +5,6 @@ mod Life
 mod Asking
 mod Walk
 mod Ends
+mod Tells
+mod Settle
+mod Keep

@@ -9,6 +9,7 @@ use Rattle.unfolding.proofs.Unfolding.{formed-grows, formed-row, link-has, shape
 use Rattle.life.specs.Calls.{array_link}
 use Rattle.life.specs.Life.{Agrees, Counted, Earlier, LifetimeLaw, Lived}
 use Rattle.life.specs.Rounds.{Descriptors, Layer, Stands, Unknown}
+use Rattle.life.specs.Settle.{found}
 use Rattle.life.specs.Steps.{Book, Event, KeepsDescriptors, PrettyName, answer, keeps_finds, wanted}
 use Rattle.life.proofs.Lists.{not_both, not_some_none, same_some, split_option}
 use Rattle.life.proofs.Standing.{layer_unknown, link_stands}

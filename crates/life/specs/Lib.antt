@@ -5,3 +5,5 @@ pub mod Steps
 pub mod Life
 pub mod Walk
 pub mod Stops
+pub mod Settle
+pub mod Keep
