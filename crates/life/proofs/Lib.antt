@@ -8,3 +8,5 @@ mod Ends
 mod Tells
 mod Settle
 mod Keep
+mod Outcomes
+mod Fill

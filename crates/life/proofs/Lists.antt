@@ -4,7 +4,7 @@ use Rattle.std.proofs.Common.{◌++◌, ◌↔◌, ◌∙◌, ◌∷◌, ◌≡�
 use Rattle.std.proofs.lemmas.Bool.{cases_Bool, or_cases, or_left, or_right}
 use Rattle.std.proofs.lemmas.Slice.Eq.{bytes_eq-Decides}
 use Rattle.unfolding.specs.Lists.{Distinct, Mem}
-use Rattle.life.specs.Lists.{Among, FirstAt, first_place, is_in}
+use Rattle.life.specs.Lists.{FirstAt, first_place, is_in}
 
 pub not_both : {b : Bool} → b ≡ true → b ≡ false → ⊥
 not_both {b} p q = absurd cc
@@ -73,7 +73,7 @@ distinct_append (x ∷ xs) ys p q apart =
 -- the first place of a test that agrees with P on the list
 module _ {A : Type 0} (test : A → Bool) (P : A → Type 0) where
   abbrev pub Agree : List A → Type 0
-  Agree xs = (x : A) → Among x xs → (test x ≡ true) ↔ P x
+  Agree xs = (x : A) → Mem x xs → (test x ≡ true) ↔ P x
 
   place_yes : (i : ℕ) (x : A) (xs : List A) → test x ≡ true → first_place test i (x ∷ xs) ≡ Some i
   place_yes i x xs e = ap (λ (v : Bool). elim v as (λ _. Option ℕ) [ true ↦ Some i | false ↦ first_place test (suc i) xs ]) e
@@ -97,7 +97,7 @@ module _ {A : Type 0} (test : A → Bool) (P : A → Type 0) where
       ))
       (cases_Bool (test x))
 
-  pub place_some : (xs : List A) → Agree xs → (i : ℕ) → ((j : ℕ) × (first_place test i xs ≡ Some j)) ↔ ((x : A) × Among x xs × P x)
+  pub place_some : (xs : List A) → Agree xs → (i : ℕ) → ((j : ℕ) × (first_place test i xs ≡ Some j)) ↔ ((x : A) × Mem x xs × P x)
   place_some [] g i = (λ e. absurd (not_some_none e.0 e.1 refl), λ x. absurd x.1)
   place_some (x ∷ xs) g i =
       let later = place_some xs (λ y m. g y (inr m)) (suc i) in

@@ -7,3 +7,5 @@ pub mod Walk
 pub mod Stops
 pub mod Settle
 pub mod Keep
+pub mod Outcomes
+pub mod Fill

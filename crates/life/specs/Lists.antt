@@ -11,10 +11,6 @@ is_in o os = list_any (nat_eq o) os
 abbrev pub AtMost : ℕ → (ℕ → Type 0) → Type 0
 AtMost m P = (os : List ℕ) → Distinct os → ((o : ℕ) → Mem o os → P o) → length os ≤ m
 
-abbrev pub Among : {A : Type 0} → A → List A → Type 0
-Among x [] = ⊥
-Among x (y ∷ ys) = (x ≡ y) ⊎ Among x ys
-
 -- the place of the first element that passes the test, counted from i
 abbrev pub first_place : {A : Type 0} → (A → Bool) → ℕ → List A → Option ℕ
 first_place test i [] = None

@@ -1,12 +1,12 @@
--- Membership of a list of numbers, and lists without repetition.
+-- Membership of a list, and lists without repetition.
 -- Assumes nothing.
-use Rattle.std.specs.Prelude.{◌≡◌, ℕ, ◌⊎◌, List, [], ◌∷◌}
+use Rattle.std.specs.Prelude.{◌≡◌, ◌⊎◌, List, [], ◌∷◌}
 
-abbrev pub Mem : ℕ → List ℕ → Type 0
-Mem o [] = ⊥
-Mem o (p ∷ ps) = (o ≡ p) ⊎ Mem o ps
+abbrev pub Mem : {A : Type 0} → A → List A → Type 0
+Mem x [] = ⊥
+Mem x (y ∷ ys) = (x ≡ y) ⊎ Mem x ys
 
--- no number twice
-abbrev pub Distinct : List ℕ → Type 0
+-- nothing twice
+abbrev pub Distinct : {A : Type 0} → List A → Type 0
 Distinct [] = Unit {0}
 Distinct (x ∷ xs) = (Mem x xs → ⊥) × Distinct xs

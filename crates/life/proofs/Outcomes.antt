@@ -1,0 +1,83 @@
+-- What computed calls share: refusals that keep nothing are steps, and refusals 9 and 10 have the first place.
+-- Assumes nothing.
+use Rattle.std.proofs.Common.{◌&&◌, ◌↔◌, ◌∙◌, ◌≡◌, ◌≤◌, ◌⊎◌, Bool, List, None, Option, Some, ap, false, inl, inr, is_some, not, refl, true, ℕ, ⊎_elim}
+use Rattle.std.proofs.lemmas.Bool.{and_parts, not-true}
+use Rattle.catalog.specs.Catalog.{Catalog, Laws}
+use Rattle.unfolding.specs.Lists.{Mem}
+use Rattle.life.specs.Calls.{Call}
+use Rattle.life.specs.Keep.{call_event}
+use Rattle.life.specs.Lists.{first_place}
+use Rattle.life.specs.Outcomes.{Fits, Outcome, RefusedAtFirst, Unresolved, fitted, refusal, unresolved}
+use Rattle.life.specs.Rounds.{Descriptors, LastRound, StandsOnce}
+use Rattle.life.specs.Settle.{found, settled}
+use Rattle.life.specs.Steps.{Book, Ending, Step, keeps_finds, refused}
+use Rattle.life.specs.Stops.{Offence}
+use Rattle.life.proofs.Keep.{found_request, leaving_step, request_found}
+use Rattle.life.proofs.Life.{Sound}
+use Rattle.life.proofs.Lists.{Agree, is_some_if, not_both, place_first, place_some, split_option}
+
+-- the numbers of a refusal that keeps nothing
+abbrev pub Bare : ℕ → Type 0
+Bare n = (n ≡ 4) ⊎ ((n ≡ 5) ⊎ ((n ≡ 6) ⊎ ((n ≡ 7) ⊎ (n ≡ 8))))
+
+bare_leaves : (n p r : ℕ) → Bare n → keeps_finds (refused n p false r) ≡ false
+bare_leaves n p r = ⊎_elim at (⊎_elim at (⊎_elim at (⊎_elim at at)))
+  where
+    at : {m : ℕ} → n ≡ m → keeps_finds (refused n p false r) ≡ keeps_finds (refused m p false r)
+    at e = ap (λ k. keeps_finds (refused k p false r)) e
+
+pub offence_bare : (c : Catalog) (b : Descriptors) (rs : List ℕ) (extra n p r : ℕ) → Offence c b rs extra n p r → Bare n
+offence_bare c b rs extra n p r =
+    ⊎_elim (λ x. inl x.0) (⊎_elim (λ x. inr (inl x.0)) (λ x. ⊎_elim (λ y. inr (inr (inr (inl y.0)))) (λ y. inr (inr (inl y.0))) x.6.why))
+
+module _ (c : Catalog) (b : Book) (call : Call) (laws : Laws c) where
+  -- the outcome is a step of the book
+  abbrev pub Next : Outcome → Type 0
+  Next o = Step (call_event c call o.ending) b o.left
+
+  pub refusal_next : (n p r : ℕ) → Bare n → r ≤ c.allowance → Next (refusal b n p r)
+  refusal_next n p r x le = leaving_step c b call (refused n p false r) laws (bare_leaves n p r x) le
+
+  pub fitted_next : (f : Option ℕ) (fine : Outcome) (n : ℕ) → n ≤ c.allowance → Next fine → Next (fitted f fine (λ table. refusal b 8 table n))
+  fitted_next None fine n le x = x
+  fitted_next (Some t) fine n le x = refusal_next 8 t n (inr (inr (inr (inr refl)))) le
+
+pub last_quiet : (c : Catalog) (b : Descriptors) (rs : List ℕ) (others : Type 0) → (others → ⊥) → (n : ℕ) → LastRound c b rs ⊥ n → LastRound c b rs others n
+last_quiet c b rs others quiet n l = (
+  λ k x. l.0 k (⊎_elim (λ y. inl (y.0, quiet y.1)) (λ y. inr y) x),
+  ⊎_elim (λ z. inl z) (λ z. inr (⊎_elim (λ y. inl (y.0, absurd y.1)) (λ y. inr y) z)) l.1,
+)
+
+-- where it is not refused by 8, no table is full
+pub fits_none : (f : Option ℕ) (fine : Outcome) (b : Book) (n : ℕ) → Fits (fitted f fine (λ table. refusal b 8 table n)).ending n → f ≡ None
+fits_none None fine b n x = refl
+fits_none (Some t) fine b n x = absurd (x t refl)
+
+-- what is refused at the place that a test gives is refused at the first place of what the test tells
+pub refused_first : {A : Type 0} (e : Ending) (number n : ℕ) (test : A → Bool) (P : A → Type 0) (xs : List A) → Agree test P xs →
+    ((place : ℕ) → (e ≡ refused number place false n) ↔ (first_place test 0 xs ≡ Some place)) → RefusedAtFirst e number n P xs
+refused_first e number n test P xs agree told = record {
+  if_any = (
+    λ y. (place_some test P xs agree 0).0 (y.0, (told y.0).0 y.1),
+    λ y. let x = (place_some test P xs agree 0).1 y in (x.0, (told x.0).1 x.1),
+  );
+  first = λ place. (
+    λ y. (place_first test P xs agree 0 place).0 ((told place).0 y),
+    λ y. (told place).1 ((place_first test P xs agree 0 place).1 y),
+  );
+}
+
+-- after the passes, the test for refusal 9 tells a requested OID that has a row and no unfolding
+module _ (c : Catalog) (b : Descriptors) (rs : List ℕ) (sound : Sound c b) (reads : List ℕ) (are : (o : ℕ) → Mem o reads ↔ StandsOnce c b rs o) where
+  abbrev d : Descriptors
+  d = settled c b reads
+
+  pub unresolved_tells : (o : ℕ) → Mem o rs → (unresolved c d o ≡ true) ↔ Unresolved c o
+  unresolved_tells o m = (
+    λ e.
+        let v = and_parts (is_some (c.rows o)) (not (is_some (found d o))) e in
+        (is_some_if (c.rows o) v.0, λ u. not_both (ap is_some (request_found c b rs sound reads are o u.0 m u.1)) (not-true (is_some (found d o)) v.1)),
+    λ y.
+        let unfound : found d o ≡ None = ⊎_elim (λ z. z) (λ z. absurd (y.1 (z.0, found_request c b rs sound reads are o z.0 z.1))) (split_option (found d o)) in
+        λ i. is_some (y.0.1 i) && not (is_some (unfound i)),
+  )

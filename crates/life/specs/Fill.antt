@@ -1,0 +1,48 @@
+-- A whole Fill, computed: the walk, the passes, and refusals 8 and 9.
+-- Assumes nothing.
+use Rattle.std.specs.Prelude.{◌≡◌, List, None, Option, Some, false, ℕ}
+use Rattle.catalog.specs.Catalog.{Catalog, Laws}
+use Rattle.life.specs.Calls.{Call, fill, requests}
+use Rattle.life.specs.Keep.{LivesOn, kept}
+use Rattle.life.specs.Life.{Lived}
+use Rattle.life.specs.Lists.{first_place}
+use Rattle.life.specs.Outcomes.{Fits, Outcome, RefusedAtFirst, Unresolved, concluded, fitted, refusal, unresolved}
+use Rattle.life.specs.Settle.{settled}
+use Rattle.life.specs.Steps.{Book, Ending, Event, NamesStand, accepted, accepts, refused}
+use Rattle.life.specs.Walk.{ended, walk_from}
+
+abbrev pub closing : ℕ → Option ℕ → Ending
+closing n None = accepted n 0
+closing n (Some place) = refused 9 place false n
+
+-- `full` tells the first table that a book does not fit into, if any
+module _ (full : Book → Option ℕ) (c : Catalog) (b : Book) (call : Call) where
+  abbrev pub settled_ending : ℕ → List ℕ → Ending
+  settled_ending n reads = closing n (first_place (unresolved c (settled c b.descriptors reads)) 0 (requests c call))
+
+  abbrev pub settled_outcome : ℕ → List ℕ → Outcome
+  settled_outcome n reads =
+      let left : Book = kept c call reads b (accepts (settled_ending n reads)) in
+      fitted (full left) (record { ending = settled_ending n reads; left = left }) (λ table. refusal b 8 table n)
+
+  abbrev pub outcome : Outcome
+  outcome = concluded b settled_outcome (walk_from c b.descriptors (requests c call))
+
+-- a call in which nothing but OIDs stands, as every Fill and Describe, is so computed as one more step of any life
+abbrev pub QuietLaw : Type 0
+QuietLaw =
+    (full : Book → Option ℕ) (h : List Event) (c : Catalog) (b : Book) (call : Call) →
+    Laws c → Lived h c b → (NamesStand c b call → ⊥) →
+    LivesOn h c call (outcome full c b call).ending (outcome full c b call).left
+
+abbrev pub FillLaw : Type 0
+FillLaw =
+    (full : Book → Option ℕ) (h : List Event) (c : Catalog) (b : Book) (rs : List ℕ) → Laws c → Lived h c b →
+    LivesOn h c (fill rs) (outcome full c b (fill rs)).ending (outcome full c b (fill rs)).left
+
+-- once its walk has ended and what it keeps fits, it is refused by 9 exactly where a requested OID has a row and no unfolding
+abbrev pub NineLaw : Type 0
+NineLaw =
+    (full : Book → Option ℕ) (h : List Event) (c : Catalog) (b : Book) (call : Call) → Lived h c b →
+    (n : ℕ) (reads : List ℕ) → walk_from c b.descriptors (requests c call) ≡ ended n reads → Fits (outcome full c b call).ending n →
+    RefusedAtFirst (outcome full c b call).ending 9 n (Unresolved c) (requests c call)

@@ -1,0 +1,46 @@
+-- How a computed call comes to its outcome once its rounds are walked.
+-- Assumes nothing.
+use Rattle.std.specs.Prelude.{◌&&◌, ◌↔◌, ◌≡◌, Bool, List, None, Option, Some, false, is_some, not, ℕ}
+use Rattle.catalog.specs.Catalog.{Catalog, CatalogRow}
+use Rattle.unfolding.specs.Lists.{Mem}
+use Rattle.unfolding.specs.Unfolding.{HasUnfolding}
+use Rattle.life.specs.Lists.{FirstAt}
+use Rattle.life.specs.Rounds.{Descriptors}
+use Rattle.life.specs.Settle.{found}
+use Rattle.life.specs.Steps.{Book, Ending, refused}
+use Rattle.life.specs.Walk.{Walked, ended, stopped}
+
+pub record Outcome : Type 0 where
+  pub ending : Ending
+  pub left : Book
+
+-- a refusal that leaves the book as it was
+abbrev pub refusal : Book → (number place rounds : ℕ) → Outcome
+refusal b number place rounds = record { ending = refused number place false rounds; left = b }
+
+-- the outcome where no table is full, and that where one is
+abbrev pub fitted : Option ℕ → Outcome → (ℕ → Outcome) → Outcome
+fitted None fine over = fine
+fitted (Some table) fine over = over table
+
+-- what follows where the rounds ended, or their refusal
+abbrev pub concluded : Book → (ℕ → List ℕ → Outcome) → Walked → Outcome
+concluded b next (ended n reads) = next n reads
+concluded b next (stopped number place rounds) = refusal b number place rounds
+
+-- the OID has a row, and is not known
+abbrev pub unresolved : Catalog → Descriptors → ℕ → Bool
+unresolved c d o = is_some (c.rows o) && not (is_some (found d o))
+
+-- the OID has a row and no unfolding
+abbrev pub Unresolved : Catalog → ℕ → Type 0
+Unresolved c o = ((r : CatalogRow) × (c.rows o ≡ Some r)) × (HasUnfolding c o → ⊥)
+
+-- after n rounds it is not refused by 8
+abbrev pub Fits : Ending → ℕ → Type 0
+Fits e n = (table : ℕ) → e ≡ refused 8 table false n → ⊥
+
+-- after n rounds it is refused by this number exactly where P holds of an element, and then at the place of the first
+pub record RefusedAtFirst {A : Type 0} (e : Ending) (number n : ℕ) (P : A → Type 0) (xs : List A) : Type 0 where
+  pub if_any : ((place : ℕ) × (e ≡ refused number place false n)) ↔ ((x : A) × Mem x xs × P x)
+  pub first : (place : ℕ) → (e ≡ refused number place false n) ↔ FirstAt P 0 xs place
