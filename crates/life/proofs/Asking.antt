@@ -11,10 +11,10 @@ pub split_asked : (a : Asked) → ((l : ℕ) × (a ≡ all_read l)) ⊎ ((n p : 
 split_asked (all_read l) = inl (l, refl)
 split_asked (stop n p) = inr (n, p, refl)
 
-pub each_mem : (P : ℕ → Type 0) (os : List ℕ) → Each P os → (o : ℕ) → Mem o os → P o
-each_mem P [] e o m = absurd m
-each_mem P (p ∷ os) e o (inl q) = subst P (sym q) e.0
-each_mem P (p ∷ os) e o (inr m) = each_mem P os e.1 o m
+pub each_mem : {A : Type 0} (P : A → Type 0) (xs : List A) → Each P xs → (x : A) → Mem x xs → P x
+each_mem P [] e x m = absurd m
+each_mem P (y ∷ xs) e x (inl q) = subst P (sym q) e.0
+each_mem P (y ∷ xs) e x (inr m) = each_mem P xs e.1 x m
 
 module _ {Q : Type 0} (oid : Q → ℕ) (bad : Q → Bool) where
   asked_bad : (left : ℕ) (q : Q) (qs : List Q) → bad q ≡ true → ask_each oid bad (suc left) (q ∷ qs) ≡ stop 6 (oid q)

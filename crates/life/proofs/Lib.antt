@@ -10,3 +10,5 @@ mod Settle
 mod Keep
 mod Outcomes
 mod Fill
+mod Questions
+mod First

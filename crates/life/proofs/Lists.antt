@@ -51,19 +51,19 @@ mem_in o (p ∷ ps) (inr m) = or_right (nat_eq o p) (is_in o ps) (mem_in o ps m)
 pub cases_mem : (o : ℕ) (os : List ℕ) → Mem o os ⊎ (Mem o os → ⊥)
 cases_mem o os = ⊎_elim (λ e. inl (in_mem o os e)) (λ e. inr (λ m. not_both (mem_in o os m) e)) (cases_Bool (is_in o os))
 
-pub mem_left : (o : ℕ) (xs ys : List ℕ) → Mem o xs → Mem o (xs ++ ys)
-mem_left o [] ys m = absurd m
-mem_left o (x ∷ xs) ys (inl e) = inl e
-mem_left o (x ∷ xs) ys (inr m) = inr (mem_left o xs ys m)
+pub mem_left : {A : Type 0} (x : A) (xs ys : List A) → Mem x xs → Mem x (xs ++ ys)
+mem_left x [] ys m = absurd m
+mem_left x (y ∷ xs) ys (inl e) = inl e
+mem_left x (y ∷ xs) ys (inr m) = inr (mem_left x xs ys m)
 
-pub mem_right : (o : ℕ) (xs ys : List ℕ) → Mem o ys → Mem o (xs ++ ys)
-mem_right o [] ys m = m
-mem_right o (x ∷ xs) ys m = inr (mem_right o xs ys m)
+pub mem_right : {A : Type 0} (x : A) (xs ys : List A) → Mem x ys → Mem x (xs ++ ys)
+mem_right x [] ys m = m
+mem_right x (y ∷ xs) ys m = inr (mem_right x xs ys m)
 
-pub mem_split : (o : ℕ) (xs ys : List ℕ) → Mem o (xs ++ ys) → Mem o xs ⊎ Mem o ys
-mem_split o [] ys m = inr m
-mem_split o (x ∷ xs) ys (inl e) = inl (inl e)
-mem_split o (x ∷ xs) ys (inr m) = ⊎_elim (λ l. inl (inr l)) (λ r. inr r) (mem_split o xs ys m)
+pub mem_split : {A : Type 0} (x : A) (xs ys : List A) → Mem x (xs ++ ys) → Mem x xs ⊎ Mem x ys
+mem_split x [] ys m = inr m
+mem_split x (y ∷ xs) ys (inl e) = inl (inl e)
+mem_split x (y ∷ xs) ys (inr m) = ⊎_elim (λ l. inl (inr l)) (λ r. inr r) (mem_split x xs ys m)
 
 pub distinct_append : (xs ys : List ℕ) → Distinct xs → Distinct ys → ((o : ℕ) → Mem o xs → Mem o ys → ⊥) → Distinct (xs ++ ys)
 distinct_append [] ys p q apart = q

@@ -1,6 +1,6 @@
 -- What computed calls share: refusals that keep nothing are steps, and refusals 9 and 10 have the first place.
 -- Assumes nothing.
-use Rattle.std.proofs.Common.{◌&&◌, ◌↔◌, ◌∙◌, ◌≡◌, ◌≤◌, ◌⊎◌, Bool, List, None, Option, Some, ap, false, inl, inr, is_some, not, refl, true, ℕ, ⊎_elim}
+use Rattle.std.proofs.Common.{◌&&◌, ◌↔◌, ◌≡◌, ◌≤◌, ◌⊎◌, Bool, List, None, Option, Some, ap, false, inl, inr, is_some, not, refl, true, ℕ, ⊎_elim}
 use Rattle.std.proofs.lemmas.Bool.{and_parts, not-true}
 use Rattle.catalog.specs.Catalog.{Catalog, Laws}
 use Rattle.unfolding.specs.Lists.{Mem}

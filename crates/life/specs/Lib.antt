@@ -9,3 +9,5 @@ pub mod Settle
 pub mod Keep
 pub mod Outcomes
 pub mod Fill
+pub mod RoundOne
+pub mod Resolve

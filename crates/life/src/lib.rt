@@ -3,5 +3,6 @@
 
 mod filling;
 mod keeping;
+mod resolving;
 mod rounds;
 mod steps;
