@@ -12,3 +12,4 @@ mod Outcomes
 mod Fill
 mod Questions
 mod First
+mod Resolve

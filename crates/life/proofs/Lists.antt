@@ -75,10 +75,10 @@ module _ {A : Type 0} (test : A → Bool) (P : A → Type 0) where
   abbrev pub Agree : List A → Type 0
   Agree xs = (x : A) → Mem x xs → (test x ≡ true) ↔ P x
 
-  place_yes : (i : ℕ) (x : A) (xs : List A) → test x ≡ true → first_place test i (x ∷ xs) ≡ Some i
+  pub place_yes : (i : ℕ) (x : A) (xs : List A) → test x ≡ true → first_place test i (x ∷ xs) ≡ Some i
   place_yes i x xs e = ap (λ (v : Bool). elim v as (λ _. Option ℕ) [ true ↦ Some i | false ↦ first_place test (suc i) xs ]) e
 
-  place_no : (i : ℕ) (x : A) (xs : List A) → test x ≡ false → first_place test i (x ∷ xs) ≡ first_place test (suc i) xs
+  pub place_no : (i : ℕ) (x : A) (xs : List A) → test x ≡ false → first_place test i (x ∷ xs) ≡ first_place test (suc i) xs
   place_no i x xs e = ap (λ (v : Bool). elim v as (λ _. Option ℕ) [ true ↦ Some i | false ↦ first_place test (suc i) xs ]) e
 
   pub place_first : (xs : List A) → Agree xs → (i j : ℕ) → (first_place test i xs ≡ Some j) ↔ FirstAt P i xs j
