@@ -9,16 +9,16 @@ use Rattle.unfolding.specs.Lists.{Distinct, Mem}
 use Rattle.unfolding.proofs.Lists.{pigeon}
 use Rattle.life.specs.Calls.{ArrayIn, Declared, array_of, of_name, of_oid, requests, resolve}
 use Rattle.life.specs.Life.{Agrees}
+use Rattle.life.specs.Lists.{fresh}
 use Rattle.life.specs.RoundOne.{FirstRound, OrderlyResolve, Question, ResolveEndsLaw, ResolveStopsLaw, RoundOneLaw, any_question, asked_in_full, asked_oid, asks_name, first_opened, for_array, for_arrays_alone, in_full, miscoded, refusable, resolve_walk, round_one}
 use Rattle.life.specs.Rounds.{Anything}
 use Rattle.life.specs.Steps.{Book, SomeStands}
 use Rattle.life.specs.Stops.{Offence, earlier}
-use Rattle.life.specs.Walk.{Walked, and_then, answered, ask_each, ended, fresh, links_of, stopped, walk}
+use Rattle.life.specs.Walk.{Walked, and_then, answered, ask_each, ended, links_of, stopped, walk}
 use Rattle.life.proofs.Asking.{ask_reads, ask_stops, split_asked}
 use Rattle.life.proofs.Ends.{shows}
-use Rattle.life.proofs.Fresh.{none_not_some}
 use Rattle.life.proofs.Life.{agrees}
-use Rattle.life.proofs.Lists.{is_none_if, mem_left, mem_right, mem_split, not_both}
+use Rattle.life.proofs.Lists.{is_none_if, mem_left, mem_right, mem_split, none_not_some, not_both}
 use Rattle.life.proofs.Questions.{all_distinct, alone_apart, each_sane, element_read, mem_alone, mem_full, parts_length, round_full}
 use Rattle.life.proofs.Standing.{earlier_stands, layer_stands, stands_layer}
 use Rattle.life.proofs.Walk.{Ended, Result, ended_counts, ended_reads, last_once, walked}

@@ -1,17 +1,16 @@
--- What `fresh` and `links-of` hold. Assumes nothing.
-use Rattle.std.proofs.Common.{◌++◌, ◌||◌, ◌∙◌, ◌∷◌, ◌≡◌, Bool, List, None, Option, [], ap, append-nil, append_assoc, eq-eqb, eqb-true, false, inl, inr, is_some, nat_eq, refl, subst, sym, true, ℕ, ⊎_elim}
+-- What `fresh_by` and `links_of` hold.
+-- Assumes nothing.
+use Rattle.std.proofs.Common.{◌++◌, ◌||◌, ◌∙◌, ◌∷◌, ◌≡◌, Bool, Decides, List, [], ap, append-nil, append_assoc, false, inl, inr, is_some, refl, subst, sym, true, ℕ, ⊎_elim}
 use Rattle.std.proofs.lemmas.Bool.{cases_Bool, or_cases, or_from, or_parts}
+use Rattle.std.specs.List.{list_any}
 use Rattle.catalog.specs.Catalog.{Catalog}
 use Rattle.catalog.specs.Shape.{formed}
 use Rattle.unfolding.specs.Lists.{Distinct, Mem}
 use Rattle.unfolding.specs.Unfolding.{Link, built_in}
-use Rattle.life.specs.Lists.{is_in}
+use Rattle.life.specs.Lists.{fresh_by, push_all}
 use Rattle.life.specs.Rounds.{Descriptors, Unknown}
-use Rattle.life.specs.Walk.{answered, fresh, links_in, links_of, push_all, push_new}
-use Rattle.life.proofs.Lists.{in_mem, is_none_if, mem_in, mem_left, mem_right, mem_split, not_both, split_option}
-
-pub none_not_some : {A : Type 0} (x : Option A) → x ≡ None → is_some x ≡ false
-none_not_some x e = ap is_some e
+use Rattle.life.specs.Walk.{answered, links_in, links_of}
+use Rattle.life.proofs.Lists.{is_none_if, mem_left, mem_right, mem_split, mem_tells, none_not_some, not_both, split_option}
 
 pub unanswered : (b : Descriptors) (o : ℕ) → answered b o ≡ false → Unknown b o
 unanswered b o e = let h = or_parts (built_in o) (is_some (b o)) e in (h.0, is_none_if (b o) h.1)
@@ -19,67 +18,76 @@ unanswered b o e = let h = or_parts (built_in o) (is_some (b o)) e in (h.0, is_n
 pub answered_not : (b : Descriptors) (o : ℕ) → Unknown b o → answered b o ≡ false
 answered_not b o u = or_from (built_in o) (is_some (b o)) u.0 (none_not_some (b o) u.1)
 
-module _ (skip : ℕ → Bool) where
-  passes : (seen : List ℕ) (o : ℕ) (os : List ℕ) → (skip o || is_in o seen) ≡ true → fresh skip seen (o ∷ os) ≡ fresh skip seen os
-  passes seen o os e = ap (λ (x : Bool). elim x as (λ _. List ℕ) [ true ↦ fresh skip seen os | false ↦ o ∷ fresh skip (o ∷ seen) os ]) e
+module _ {A : Type 0} (same : A → A → Bool) (tells : (x y : A) → Decides (same x y) (x ≡ y)) (skip : A → Bool) where
+  passes : (seen : List A) (x : A) (xs : List A) → (skip x || list_any (same x) seen) ≡ true → fresh_by same skip seen (x ∷ xs) ≡ fresh_by same skip seen xs
+  passes seen x xs e = ap (λ (t : Bool). elim t as (λ _. List A) [ true ↦ fresh_by same skip seen xs | false ↦ x ∷ fresh_by same skip (x ∷ seen) xs ]) e
 
-  takes : (seen : List ℕ) (o : ℕ) (os : List ℕ) → (skip o || is_in o seen) ≡ false → fresh skip seen (o ∷ os) ≡ o ∷ fresh skip (o ∷ seen) os
-  takes seen o os e = ap (λ (x : Bool). elim x as (λ _. List ℕ) [ true ↦ fresh skip seen os | false ↦ o ∷ fresh skip (o ∷ seen) os ]) e
+  takes : (seen : List A) (x : A) (xs : List A) → (skip x || list_any (same x) seen) ≡ false → fresh_by same skip seen (x ∷ xs) ≡ x ∷ fresh_by same skip (x ∷ seen) xs
+  takes seen x xs e = ap (λ (t : Bool). elim t as (λ _. List A) [ true ↦ fresh_by same skip seen xs | false ↦ x ∷ fresh_by same skip (x ∷ seen) xs ]) e
 
-  Fits : List ℕ → List ℕ → ℕ → Type 0
-  Fits seen os p = Mem p os × (skip p ≡ false) × (Mem p seen → ⊥)
-
-  pub fresh_has : (os seen : List ℕ) (p : ℕ) → Mem p (fresh skip seen os) → Mem p os × (skip p ≡ false) × (Mem p seen → ⊥)
+  pub fresh_has : (xs seen : List A) (p : A) → Mem p (fresh_by same skip seen xs) → Mem p xs × (skip p ≡ false) × (Mem p seen → ⊥)
   fresh_has [] seen p m = absurd m
-  fresh_has (o ∷ os) seen p m =
+  fresh_has (x ∷ xs) seen p m =
       ⊎_elim
-      (λ t. let h = fresh_has os seen p (subst (Mem p) (passes seen o os t) m) in (inr h.0, h.1, h.2))
+      (λ t. let h = fresh_has xs seen p (subst (Mem p) (passes seen x xs t) m) in (inr h.0, h.1, h.2))
       (λ f.
-      let n = or_parts (skip o) (is_in o seen) f in
+      let n = or_parts (skip x) (list_any (same x) seen) f in
       ⊎_elim
-      (λ (e : p ≡ o). (inl e, ap skip e ∙ n.0, λ k. not_both (mem_in o seen (subst (λ q. Mem q seen) e k)) n.1))
-      (λ k. let h = fresh_has os (o ∷ seen) p k in (inr h.0, h.1, λ l. h.2 (inr l)))
-      (subst (Mem p) (takes seen o os f) m))
-      (cases_Bool (skip o || is_in o seen))
+      (λ (e : p ≡ x). (inl e, ap skip e ∙ n.0, λ k. not_both ((mem_tells same tells x seen).1 (subst (λ q. Mem q seen) e k)) n.1))
+      (λ k. let h = fresh_has xs (x ∷ seen) p k in (inr h.0, h.1, λ l. h.2 (inr l)))
+      (subst (Mem p) (takes seen x xs f) m))
+      (cases_Bool (skip x || list_any (same x) seen))
 
-  pub has_fresh : (os seen : List ℕ) (p : ℕ) → Mem p os → skip p ≡ false → (Mem p seen → ⊥) → Mem p (fresh skip seen os)
+  pub has_fresh : (xs seen : List A) (p : A) → Mem p xs → skip p ≡ false → (Mem p seen → ⊥) → Mem p (fresh_by same skip seen xs)
   has_fresh [] seen p m s n = absurd m
-  has_fresh (o ∷ os) seen p m s n =
+  has_fresh (x ∷ xs) seen p m s n =
       ⊎_elim
       (λ t.
-      subst (Mem p) (sym (passes seen o os t))
+      subst (Mem p) (sym (passes seen x xs t))
       (⊎_elim
-      (λ (e : p ≡ o). absurd (⊎_elim (λ x. not_both x (sym (ap skip e) ∙ s)) (λ x. n (subst (λ q. Mem q seen) (sym e) (in_mem o seen x))) (or_cases (skip o) (is_in o seen) t)))
-      (λ k. has_fresh os seen p k s n)
+      (λ (e : p ≡ x).
+      absurd
+      (⊎_elim
+      (λ y. not_both y (sym (ap skip e) ∙ s))
+      (λ y. n (subst (λ q. Mem q seen) (sym e) ((mem_tells same tells x seen).0 y)))
+      (or_cases (skip x) (list_any (same x) seen) t)))
+      (λ k. has_fresh xs seen p k s n)
       m))
       (λ f.
-      subst (Mem p) (sym (takes seen o os f))
+      subst (Mem p) (sym (takes seen x xs f))
       (⊎_elim
-      (λ (e : p ≡ o). inl e)
-      (λ k. ⊎_elim (λ x. inl (eqb-true p o x)) (λ x. inr (has_fresh os (o ∷ seen) p k s (⊎_elim (λ (e : p ≡ o). not_both (eq-eqb p o e) x) n))) (cases_Bool (nat_eq p o)))
-      m))
-      (cases_Bool (skip o || is_in o seen))
-
-  pub fresh_distinct : (os seen : List ℕ) → Distinct (fresh skip seen os)
-  fresh_distinct [] seen = tt
-  fresh_distinct (o ∷ os) seen =
+      (λ (e : p ≡ x). inl e)
+      (λ k.
       ⊎_elim
-      (λ t. subst Distinct (sym (passes seen o os t)) (fresh_distinct os seen))
-      (λ f. subst Distinct (sym (takes seen o os f)) (λ m. (fresh_has os (o ∷ seen) o m).2 (inl refl), fresh_distinct os (o ∷ seen)))
-      (cases_Bool (skip o || is_in o seen))
+      (λ y. inl ((tells p x).0 y))
+      (λ y. inr (has_fresh xs (x ∷ seen) p k s (⊎_elim (λ (e : p ≡ x). not_both ((tells p x).1 e) y) n)))
+      (cases_Bool (same p x)))
+      m))
+      (cases_Bool (skip x || list_any (same x) seen))
+
+  pub fresh_distinct : (xs seen : List A) → Distinct (fresh_by same skip seen xs)
+  fresh_distinct [] seen = tt
+  fresh_distinct (x ∷ xs) seen =
+      ⊎_elim
+      (λ t. subst Distinct (sym (passes seen x xs t)) (fresh_distinct xs seen))
+      (λ f. subst Distinct (sym (takes seen x xs f)) (λ m. (fresh_has xs (x ∷ seen) x m).2 (inl refl), fresh_distinct xs (x ∷ seen)))
+      (cases_Bool (skip x || list_any (same x) seen))
 
   -- only what is in the list of those seen counts
-  pub fresh_same : (os seen seen' : List ℕ) → ((o : ℕ) → is_in o seen ≡ is_in o seen') → fresh skip seen os ≡ fresh skip seen' os
+  pub fresh_same : (xs seen seen' : List A) → ((x : A) → list_any (same x) seen ≡ list_any (same x) seen') → fresh_by same skip seen xs ≡ fresh_by same skip seen' xs
   fresh_same [] seen seen' e = refl
-  fresh_same (o ∷ os) seen seen' e =
+  fresh_same (x ∷ xs) seen seen' e =
       ⊎_elim
-      (λ t. passes seen o os t ∙ fresh_same os seen seen' e ∙ sym (passes seen' o os (sym (ap (λ x. skip o || x) (e o)) ∙ t)))
-      (λ f. takes seen o os f ∙ ap (λ l. o ∷ l) (fresh_same os (o ∷ seen) (o ∷ seen') (λ p. ap (λ x. nat_eq p o || x) (e p))) ∙ sym (takes seen' o os (sym (ap (λ x. skip o || x) (e o)) ∙ f)))
-      (cases_Bool (skip o || is_in o seen))
+      (λ t. passes seen x xs t ∙ fresh_same xs seen seen' e ∙ sym (passes seen' x xs (sym (ap (λ y. skip x || y) (e x)) ∙ t)))
+      (λ f.
+      takes seen x xs f
+      ∙ ap (λ l. x ∷ l) (fresh_same xs (x ∷ seen) (x ∷ seen') (λ p. ap (λ y. same p x || y) (e p)))
+      ∙ sym (takes seen' x xs (sym (ap (λ y. skip x || y) (e x)) ∙ f)))
+      (cases_Bool (skip x || list_any (same x) seen))
 
-  pub mem_push : (o p : ℕ) (queue : List ℕ) → is_in p (queue ++ o ∷ []) ≡ is_in p (o ∷ queue)
-  mem_push o p [] = refl
-  mem_push o p (q ∷ queue) = ap (λ x. nat_eq p q || x) (mem_push o p queue) ∙ turn (nat_eq p q) (nat_eq p o) (is_in p queue)
+  pub mem_push : (x p : A) (queue : List A) → list_any (same p) (queue ++ x ∷ []) ≡ list_any (same p) (x ∷ queue)
+  mem_push x p [] = refl
+  mem_push x p (q ∷ queue) = ap (λ y. same p q || y) (mem_push x p queue) ∙ turn (same p q) (same p x) (list_any (same p) queue)
     where
       turn : (x y z : Bool) → (x || (y || z)) ≡ (y || (x || z))
       turn true true z = refl
@@ -88,25 +96,21 @@ module _ (skip : ℕ → Bool) where
       turn false false z = refl
 
   -- a queue filled one after the other
-  pub pushed : (os queue : List ℕ) → push_all skip queue os ≡ queue ++ fresh skip queue os
+  pub pushed : (xs queue : List A) → push_all same skip queue xs ≡ queue ++ fresh_by same skip queue xs
   pushed [] queue = sym (append-nil queue)
-  pushed (o ∷ os) queue =
+  pushed (x ∷ xs) queue =
       ⊎_elim
       (λ t.
-      ap (λ q. push_all skip q os) (ap (λ (x : Bool). elim x as (λ _. List ℕ) [ true ↦ queue | false ↦ queue ++ o ∷ [] ]) t)
-      ∙ pushed os queue
-      ∙ ap (λ l. queue ++ l) (sym (passes queue o os t)))
+      ap (λ q. push_all same skip q xs) (ap (λ (v : Bool). elim v as (λ _. List A) [ true ↦ queue | false ↦ queue ++ x ∷ [] ]) t)
+      ∙ pushed xs queue
+      ∙ ap (λ l. queue ++ l) (sym (passes queue x xs t)))
       (λ f.
-      ap (λ q. push_all skip q os) (ap (λ (x : Bool). elim x as (λ _. List ℕ) [ true ↦ queue | false ↦ queue ++ o ∷ [] ]) f)
-      ∙ pushed os (queue ++ o ∷ [])
-      ∙ append_assoc queue (o ∷ []) (fresh skip (queue ++ o ∷ []) os)
-      ∙ ap (λ l. queue ++ o ∷ l) (fresh_same os (queue ++ o ∷ []) (o ∷ queue) (λ p. mem_push o p queue))
-      ∙ ap (λ l. queue ++ l) (sym (takes queue o os f)))
-      (cases_Bool (skip o || is_in o queue))
-
-pub push_append : (skip : ℕ → Bool) (xs ys queue : List ℕ) → push_all skip queue (xs ++ ys) ≡ push_all skip (push_all skip queue xs) ys
-push_append skip [] ys queue = refl
-push_append skip (x ∷ xs) ys queue = push_append skip xs ys (push_new skip queue x)
+      ap (λ q. push_all same skip q xs) (ap (λ (v : Bool). elim v as (λ _. List A) [ true ↦ queue | false ↦ queue ++ x ∷ [] ]) f)
+      ∙ pushed xs (queue ++ x ∷ [])
+      ∙ append_assoc queue (x ∷ []) (fresh_by same skip (queue ++ x ∷ []) xs)
+      ∙ ap (λ l. queue ++ x ∷ l) (fresh_same xs (queue ++ x ∷ []) (x ∷ queue) (λ p. mem_push x p queue))
+      ∙ ap (λ l. queue ++ l) (sym (takes queue x xs f)))
+      (cases_Bool (skip x || list_any (same x) queue))
 
 pub link_in : (c : Catalog) (o p : ℕ) → Mem p (links_in (formed c o)) → Link c o p
 link_in c o p m =

@@ -13,7 +13,7 @@ use Rattle.life.specs.Lists.{is_in}
 use Rattle.life.specs.Rounds.{Descriptors, Known, Layer, Stands, StandsOnce, Unknown}
 use Rattle.life.specs.Settle.{found, settled}
 use Rattle.life.specs.Steps.{Book, Ending, Event, KeepsArrays, KeepsColumns, KeepsDescriptors, KeepsNames, LastOfCall, LedTo, PrettyName, Step, TellsTypeRounds, accepted, accepts, keeps_finds, refused, rounds_told}
-use Rattle.life.proofs.Life.{Has, Sound, Tells, agrees, alive, led, met, pretty_leads, tells}
+use Rattle.life.proofs.Life.{Has, Holds, Sound, agrees, alive, holds, led, met, pretty_leads}
 use Rattle.life.proofs.Lists.{bytes_same, in_mem, mem_in, not_both, not_some_none, same_bytes, same_some, split_option}
 use Rattle.life.proofs.Settle.{found_good, found_held, found_tells, settled_complete, settled_ext, settled_good, settled_only}
 use Rattle.life.proofs.Standing.{layer_unknown, link_stands}
@@ -104,7 +104,7 @@ lower c n = record { rows_stay = λ o r e. e; named_stay = λ m o e. e; columns_
 raise : (c : Catalog) (n : ℕ) → Grows (spent c n) c
 raise c n = record { rows_stay = λ o r e. e; named_stay = λ m o e. e; columns_stay = λ r a k e. e }
 
-module _ (c : Catalog) (b : Book) (call : Call) (reads : List ℕ) (laws : Laws c) (sound : Sound c b.descriptors) (agree : Agrees c b) (tell : Tells c b)
+module _ (c : Catalog) (b : Book) (call : Call) (reads : List ℕ) (laws : Laws c) (sound : Sound c b.descriptors) (agree : Agrees c b) (tell : Holds c b)
     (are : (o : ℕ) → Mem o reads ↔ StandsOnce c b.descriptors (requests c call) o) (done : Bool) where
   abbrev rs : List ℕ
   rs = requests c call
@@ -208,7 +208,7 @@ pub keeping_step : (h : List Event) (c : Catalog) (b : Book) (call : Call) (e : 
 keeping_step h c b call e reads n laws l are last keeps tells_it le =
     let sound = (alive h c b l).sound in
     let agree = agrees h c b l in
-    let tell = tells h c b l in
+    let tell = holds h c b l in
     record {
       laws = laws;
       stays = lower c (c.allowance - rounds_told e);

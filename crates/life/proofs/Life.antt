@@ -193,11 +193,11 @@ agrees (e ∷ h) c b l =
     (cases_Bool (keeps_finds e.ending))))
 
 -- the pretty name and the array link of what is described are held
-pub record Tells (c : Catalog) (b : Book) : Type 0 where
+pub record Holds (c : Catalog) (b : Book) : Type 0 where
   pub pretty_held : (n : Name) (o : ℕ) → PrettyName b n o → b.names n ≡ Some o
   pub array_held : (e a : ℕ) → Has b.descriptors e → array_link (c.rows e) ≡ Some a → b.arrays e ≡ Some a
 
-tells_grows : (c d : Catalog) (b : Book) → Grows c d → Sound c b.descriptors → Tells c b → Tells d b
+tells_grows : (c d : Catalog) (b : Book) → Grows c d → Sound c b.descriptors → Holds c b → Holds d b
 tells_grows c d b g s t = record {
   pretty_held = t.pretty_held;
   array_held = λ e a h x. t.array_held e a h (back e a h.0 (s.apart e h.0 h.1) (s.right e h.0 h.1) x);
@@ -209,20 +209,20 @@ tells_grows c d b g s t = record {
         let r = formed-row c e u.0 u.1 in
         ap array_link (r.1 ∙ sym (g.rows_stay e r.0 r.1)) ∙ x
 
-pub tells : (h : List Event) (c : Catalog) (b : Book) → Lived h c b → Tells c b
-tells [] c b e = record {
+pub holds : (h : List Event) (c : Catalog) (b : Book) → Lived h c b → Holds c b
+holds [] c b e = record {
   pretty_held = λ n o x. absurd (not_some_none (node o n x.0 x.1) x.2 (ap (λ (y : Book). y.descriptors o) e));
   array_held = λ k a x y. absurd (not_some_none x.0 x.1 (ap (λ (z : Book). z.descriptors k) e));
 }
-tells (e ∷ h) c b l =
+holds (e ∷ h) c b l =
     let b₀ = l.0 in
     let st = l.2 in
-    let was = tells h e.before b₀ l.1 in
+    let was = holds h e.before b₀ l.1 in
     let old = (alive h e.before b₀ l.1).sound in
     ⊎_elim
     (λ y.
     let new = sound_keeps e.before (wanted e) b₀.descriptors b.descriptors old (st.descriptors y) in
-    let here : Tells e.before b = record {
+    let here : Holds e.before b = record {
       pretty_held = λ n o x. (st.names y n o).1 (inr (inl x));
       array_held = λ k a x z.
           (st.arrays y k a).1
@@ -235,7 +235,7 @@ tells (e ∷ h) c b l =
     } in
     tells_grows e.after c b l.3 (sound_grows e.before e.after b.descriptors st.stays new) (tells_grows e.before e.after b st.stays new here))
     (λ n.
-    subst (Tells c) (sym (st.leaves n))
+    subst (Holds c) (sym (st.leaves n))
     (tells_grows e.after c b₀ l.3 (sound_grows e.before e.after b₀.descriptors st.stays old) (tells_grows e.before e.after b₀ st.stays old was)))
     (cases_Bool (keeps_finds e.ending))
 

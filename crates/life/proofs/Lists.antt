@@ -1,8 +1,10 @@
 -- Tests that agree with statements: membership, absence, and the first place.
 -- Assumes nothing.
-use Rattle.std.proofs.Common.{◌++◌, ◌↔◌, ◌∙◌, ◌∷◌, ◌≡◌, ◌⊎◌, Bool, List, None, Option, Some, [], ap, bytes_eq, eq-eqb, eqb-true, false, inl, inr, is_some, nat_eq, refl, subst, suc, sym, true, ℕ, ⊎_elim}
-use Rattle.std.proofs.lemmas.Bool.{cases_Bool, or_cases, or_left, or_right}
+use Rattle.std.proofs.Common.{◌++◌, ◌↔◌, ◌∙◌, ◌∷◌, ◌≡◌, ◌⊎◌, Bool, Decides, List, None, Option, Some, [], ap, bytes_eq, false, inl, inr, is_some, nat_eq, refl, subst, suc, sym, true, ℕ, ⊎_elim}
+use Rattle.std.proofs.lemmas.Bool.{cases_Bool}
+use Rattle.std.proofs.lemmas.Bool.Decides.{Decides-eqb, Decides-or}
 use Rattle.std.proofs.lemmas.Slice.Eq.{bytes_eq-Decides}
+use Rattle.std.specs.List.{list_any}
 use Rattle.unfolding.specs.Lists.{Distinct, Mem}
 use Rattle.life.specs.Lists.{FirstAt, first_place, is_in}
 
@@ -27,6 +29,12 @@ pub is_some_if : {A : Type 0} (x : Option A) → is_some x ≡ true → (a : A) 
 is_some_if None e = absurd cc
 is_some_if (Some a) e = (a, refl)
 
+pub none_not_some : {A : Type 0} (x : Option A) → x ≡ None → is_some x ≡ false
+none_not_some x e = ap is_some e
+
+pub never : Decides false ⊥
+never = (λ e. absurd cc, λ x. absurd x)
+
 -- two tests that pass together are one
 pub same_truth : (x y : Bool) → (x ≡ true → y ≡ true) → (y ≡ true → x ≡ true) → x ≡ y
 same_truth true y f g = sym (f refl)
@@ -39,14 +47,16 @@ bytes_same xs ys = (bytes_eq-Decides xs ys).0
 pub same_bytes : (xs ys : List ℕ) → xs ≡ ys → bytes_eq xs ys ≡ true
 same_bytes xs ys = (bytes_eq-Decides xs ys).1
 
+-- a test that decides sameness decides membership
+pub mem_tells : {A : Type 0} (same : A → A → Bool) → ((x y : A) → Decides (same x y) (x ≡ y)) → (x : A) (xs : List A) → Decides (list_any (same x) xs) (Mem x xs)
+mem_tells same tells x [] = never
+mem_tells same tells x (y ∷ ys) = Decides-or (same x y) (list_any (same x) ys) (tells x y) (mem_tells same tells x ys)
+
 pub in_mem : (o : ℕ) (os : List ℕ) → is_in o os ≡ true → Mem o os
-in_mem o [] e = absurd cc
-in_mem o (p ∷ ps) e = ⊎_elim (λ x. inl (eqb-true o p x)) (λ x. inr (in_mem o ps x)) (or_cases (nat_eq o p) (is_in o ps) e)
+in_mem o os = (mem_tells nat_eq Decides-eqb o os).0
 
 pub mem_in : (o : ℕ) (os : List ℕ) → Mem o os → is_in o os ≡ true
-mem_in o [] m = absurd m
-mem_in o (p ∷ ps) (inl e) = or_left (nat_eq o p) (is_in o ps) (eq-eqb o p e)
-mem_in o (p ∷ ps) (inr m) = or_right (nat_eq o p) (is_in o ps) (mem_in o ps m)
+mem_in o os = (mem_tells nat_eq Decides-eqb o os).1
 
 pub cases_mem : (o : ℕ) (os : List ℕ) → Mem o os ⊎ (Mem o os → ⊥)
 cases_mem o os = ⊎_elim (λ e. inl (in_mem o os e)) (λ e. inr (λ m. not_both (mem_in o os m) e)) (cases_Bool (is_in o os))

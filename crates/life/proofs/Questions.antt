@@ -1,22 +1,23 @@
 -- What the questions of round 1 hold: those in full are the requests, those for arrays alone known elements without one.
 -- Assumes nothing.
-use Rattle.std.proofs.Common.{◌++◌, ◌+◌, ◌||◌, ◌↔◌, ◌∙◌, ◌∷◌, ◌≡◌, ◌⊎◌, Bool, Decides, List, None, Option, Some, [], ap, arith, false, inl, inr, is_some, length, not, option_to_list, refl, subst, sym, true, ℕ, ⊎_elim}
+use Rattle.std.proofs.Common.{◌++◌, ◌+◌, ◌||◌, ◌↔◌, ◌∙◌, ◌∷◌, ◌≡◌, ◌⊎◌, Bool, Decides, List, None, Option, Some, [], ap, arith, false, inl, inr, is_some, length, nat_eq, not, option_to_list, refl, subst, sym, true, ℕ, ⊎_elim}
 use Rattle.std.proofs.lemmas.Bool.{cases_Bool, not-false, or_cases, or_from, or_left, or_parts, or_right}
+use Rattle.std.proofs.lemmas.Bool.Decides.{Decides-eqb}
 use Rattle.catalog.specs.Catalog.{Catalog, Each}
 use Rattle.catalog.specs.Shape.{Name}
 use Rattle.unfolding.specs.Lists.{Distinct, Mem}
 use Rattle.unfolding.specs.Unfolding.{built_in}
 use Rattle.life.specs.Calls.{ArrayIn, Declared, all_requests, array_link, array_of, entry_requests, of_name, of_oid, requests, resolve, with_array}
 use Rattle.life.specs.Life.{Agrees}
-use Rattle.life.specs.Lists.{is_in}
+use Rattle.life.specs.Lists.{fresh, is_in}
 use Rattle.life.specs.RoundOne.{Question, ReadApart, all_asks, asked_in_full, asked_once, element_asks, entry_asks, for_array, for_arrays_alone, in_full, in_full_if, lead, link, miscoded, refusable, round_one, spared}
 use Rattle.life.specs.Rounds.{Known}
 use Rattle.life.specs.Steps.{Book}
 use Rattle.life.specs.Stops.{earlier, standing}
-use Rattle.life.specs.Walk.{answered, fresh, malformed}
+use Rattle.life.specs.Walk.{answered, malformed}
 use Rattle.life.proofs.Asking.{each_mem}
-use Rattle.life.proofs.Fresh.{answered_not, fresh_distinct, fresh_has, has_fresh, none_not_some}
-use Rattle.life.proofs.Lists.{distinct_append, is_none_if, is_some_if, mem_left, mem_right, mem_split, not_both, split_option}
+use Rattle.life.proofs.Fresh.{answered_not, fresh_distinct, fresh_has, has_fresh}
+use Rattle.life.proofs.Lists.{distinct_append, is_none_if, is_some_if, mem_left, mem_right, mem_split, none_not_some, not_both, split_option}
 use Rattle.life.proofs.Standing.{earlier_distinct, in_before, layer_unknown, stood}
 use Rattle.life.proofs.Tells.{or_first, or_next}
 
@@ -198,12 +199,12 @@ module _ (c : Catalog) (b : Book) where
       pub alone_apart : (e : ℕ) → Mem e (for_arrays_alone qs) ↔ ReadApart c b ds e
       alone_apart e = (
         λ m.
-            let h = fresh_has (spared c b) (for_arrays_alone (all_asks c b ds)) [] e (subst (Mem e) round_alone m) in
+            let h = fresh_has nat_eq Decides-eqb (spared c b) (for_arrays_alone (all_asks c b ds)) [] e (subst (Mem e) round_alone m) in
             let s = (unspared e).0 h.1 in
             (alone_in ds e (alone_mem e (all_asks c b ds) h.0), s.0, s.1),
         λ a.
             subst (Mem e) (sym round_alone)
-            (has_fresh (spared c b) (for_arrays_alone (all_asks c b ds)) [] e (mem_alone e (all_asks c b ds) (in_both ds e a.0).0) ((unspared e).1 (a.1, a.2)) (λ x. x)),
+            (has_fresh nat_eq Decides-eqb (spared c b) (for_arrays_alone (all_asks c b ds)) [] e (mem_alone e (all_asks c b ds) (in_both ds e a.0).0) ((unspared e).1 (a.1, a.2)) (λ x. x)),
       )
 
       -- the element of a declared array that the book does not hold is read, in full or apart
@@ -213,14 +214,14 @@ module _ (c : Catalog) (b : Book) where
           (λ y. inr ((alone_apart e).1 (m, (answered_tells e).0 y, z)))
           (λ y.
           inl (subst (Mem e) (sym (once_full (all_asks c b ds) [] []))
-          (has_fresh skip (asked_in_full (all_asks c b ds)) [] e (mem_full e (all_asks c b ds) (in_both ds e m).1) y (λ x. x))))
+          (has_fresh nat_eq Decides-eqb skip (asked_in_full (all_asks c b ds)) [] e (mem_full e (all_asks c b ds) (in_both ds e m).1) y (λ x. x))))
           (cases_Bool (skip e))
 
       -- the rows read by the end of a round and those read apart are distinct
       pub all_distinct : (k : ℕ) → Distinct (earlier c b.descriptors rs k ++ for_arrays_alone qs)
       all_distinct k =
           distinct_append (earlier c b.descriptors rs k) (for_arrays_alone qs) (earlier_distinct c b.descriptors rs k)
-          (subst Distinct (sym round_alone) (fresh_distinct (spared c b) (for_arrays_alone (all_asks c b ds)) []))
+          (subst Distinct (sym round_alone) (fresh_distinct nat_eq Decides-eqb (spared c b) (for_arrays_alone (all_asks c b ds)) []))
           (λ o m n.
           let s = stood c b.descriptors rs k o (in_before c b.descriptors rs k o m) in
           not_both ((answered_tells o).1 ((alone_apart o).0 n).1) (answered_not b.descriptors o (layer_unknown c b.descriptors rs s.0 o s.1)))

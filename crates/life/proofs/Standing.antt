@@ -1,5 +1,6 @@
 -- The rounds as lists. Assumes nothing.
-use Rattle.std.proofs.Common.{◌++◌, ◌⊎◌, List, [], inl, inr, suc, zero, ℕ, ⊎_elim}
+use Rattle.std.proofs.Common.{◌++◌, ◌⊎◌, List, [], inl, inr, nat_eq, suc, zero, ℕ, ⊎_elim}
+use Rattle.std.proofs.lemmas.Bool.Decides.{Decides-eqb}
 use Rattle.catalog.specs.Catalog.{Catalog}
 use Rattle.unfolding.specs.Lists.{Distinct, Mem}
 use Rattle.unfolding.specs.Unfolding.{Link}
@@ -19,10 +20,10 @@ module _ (c : Catalog) (b : Descriptors) (rs : List ℕ) where
   mutual
     pub layer_stands : (k o : ℕ) → Mem o (layer k) → Layer c b rs k o
     layer_stands zero o m =
-        let h = fresh_has (answered b) rs [] o m in
+        let h = fresh_has nat_eq Decides-eqb (answered b) rs [] o m in
         (h.0, unanswered b o h.1)
     layer_stands (suc k) o m =
-        let h = fresh_has (answered b) (links_of c (layer k)) (before k ++ layer k) o m in
+        let h = fresh_has nat_eq Decides-eqb (answered b) (links_of c (layer k)) (before k ++ layer k) o m in
         let l = links_have c (layer k) o h.0 in (
           (l.0, layer_stands k l.0 l.1, l.2),
           unanswered b o h.1,
@@ -31,9 +32,9 @@ module _ (c : Catalog) (b : Descriptors) (rs : List ℕ) where
         )
 
     pub stands_layer : (k o : ℕ) → Layer c b rs k o → Mem o (layer k)
-    stands_layer zero o h = has_fresh (answered b) rs [] o h.0 (answered_not b o h.1) (λ x. x)
+    stands_layer zero o h = has_fresh nat_eq Decides-eqb (answered b) rs [] o h.0 (answered_not b o h.1) (λ x. x)
     stands_layer (suc k) o h =
-        has_fresh (answered b) (links_of c (layer k)) (before k ++ layer k) o
+        has_fresh nat_eq Decides-eqb (answered b) (links_of c (layer k)) (before k ++ layer k) o
         (have_links c (layer k) h.0.0 o (stands_layer k h.0.0 h.0.1) h.0.2)
         (answered_not b o h.1)
         (λ m. ⊎_elim (λ x. h.2 (in_before k o x)) (λ x. h.3 (layer_stands k o x)) (mem_split o (before k) (layer k) m))
@@ -73,12 +74,12 @@ module _ (c : Catalog) (b : Descriptors) (rs : List ℕ) where
   layer_unknown (suc k) o h = h.1
 
   layer_distinct : (k : ℕ) → Distinct (layer k)
-  layer_distinct zero = fresh_distinct (answered b) rs []
-  layer_distinct (suc k) = fresh_distinct (answered b) (links_of c (layer k)) (before k ++ layer k)
+  layer_distinct zero = fresh_distinct nat_eq Decides-eqb (answered b) rs []
+  layer_distinct (suc k) = fresh_distinct nat_eq Decides-eqb (answered b) (links_of c (layer k)) (before k ++ layer k)
 
   layer_apart : (k o : ℕ) → Mem o (layer k) → Mem o (before k) → ⊥
   layer_apart zero o m n = n
-  layer_apart (suc k) o m n = (fresh_has (answered b) (links_of c (layer k)) (before k ++ layer k) o m).2 n
+  layer_apart (suc k) o m n = (fresh_has nat_eq Decides-eqb (answered b) (links_of c (layer k)) (before k ++ layer k) o m).2 n
 
   -- each OID stands once
   pub earlier_distinct : (k : ℕ) → Distinct (before k)
@@ -90,6 +91,6 @@ standing_law c b rs k o = (layer_stands c b rs k o, stands_layer c b rs k o)
 
 pub queue_law : QueueLaw
 queue_law c b rs = (
-  pushed (answered b) rs [],
-  λ k. pushed (answered b) (links_of c (standing c b rs k)) (earlier c b rs (suc k)),
+  pushed nat_eq Decides-eqb (answered b) rs [],
+  λ k. pushed nat_eq Decides-eqb (answered b) (links_of c (standing c b rs k)) (earlier c b rs (suc k)),
 )

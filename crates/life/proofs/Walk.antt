@@ -4,9 +4,10 @@ use Rattle.std.proofs.Common.{◌++◌, ◌+◌, ◌-◌, ◌<◌, ◌↔◌, �
 use Rattle.std.proofs.lemmas.Bool.{cases_lt}
 use Rattle.catalog.specs.Catalog.{Catalog}
 use Rattle.unfolding.specs.Lists.{Mem}
+use Rattle.life.specs.Lists.{fresh}
 use Rattle.life.specs.Rounds.{Anything, Descriptors, LastRound, Layer, Stands, StandsOnce}
 use Rattle.life.specs.Stops.{Needed, Offence, Sane, StopsAt, Through, earlier, standing}
-use Rattle.life.specs.Walk.{Walked, and_then, answered, ask, ended, fresh, links_of, malformed, stopped, walk, walk_from}
+use Rattle.life.specs.Walk.{Walked, and_then, answered, ask, ended, links_of, malformed, stopped, walk, walk_from}
 use Rattle.life.proofs.Asking.{ask_reads, ask_stops, each_mem, split_asked}
 use Rattle.life.proofs.Lists.{mem_left, mem_right, mem_split}
 use Rattle.life.proofs.Standing.{earlier_stands, layer_stands, stands_layer}

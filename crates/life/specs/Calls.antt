@@ -3,6 +3,7 @@
 use Rattle.std.specs.Prelude.{◌++◌, ◌∷◌, ◌≡◌, ◌⊎◌, Bool, List, None, Option, Some, [], flat_map, if◌then◌else◌, map, option_to_list, true, ℕ, ℤ}
 use Rattle.catalog.specs.Catalog.{Catalog, CatalogRow}
 use Rattle.catalog.specs.Shape.{Name}
+use Rattle.unfolding.specs.Lists.{Mem}
 
 -- an entry of Resolve: an OID, a name, or the array of an element's name
 pub data Declared : Type 0 where
@@ -16,11 +17,17 @@ pub record Field : Type 0 where
   pub relation : Option ℕ
   pub attribute : Option ℤ
 
+-- what a Bind is asked: parameter OIDs, fields, whether queries are allowed, whether origins are wanted
+pub record Binding : Type 0 where
+  pub parameters : List ℕ
+  pub fields : List Field
+  pub queries : Bool
+  pub origins : Bool
+
 pub data Call : Type 0 where
   fill : List ℕ → Call
   resolve : List Declared → Call
-  -- parameter OIDs, fields, whether queries are allowed, whether origins are wanted
-  bind : List ℕ → List Field → Bool → Bool → Call
+  bind : Binding → Call
   describe : ℕ → Call
 
 -- the array that an element's row tells
@@ -44,7 +51,7 @@ all_requests c ds = flat_map (entry_requests c) ds
 abbrev pub requests : Catalog → Call → List ℕ
 requests c (fill os) = os
 requests c (resolve ds) = all_requests c ds
-requests c (bind ps fs allowed origins) = if allowed then ps ++ map (λ f. f.oid) fs else []
+requests c (bind q) = if q.queries then q.parameters ++ map (λ f. f.oid) q.fields else []
 requests c (describe o) = []
 
 -- n is a name, or an element's name, that the call declares
@@ -57,7 +64,7 @@ NamedIn (array_of m ∷ ds) n = (m ≡ n) ⊎ NamedIn ds n
 abbrev pub Declares : Call → Name → Type 0
 Declares (fill os) n = ⊥
 Declares (resolve ds) n = NamedIn ds n
-Declares (bind ps fs allowed origins) n = ⊥
+Declares (bind q) n = ⊥
 Declares (describe o) n = ⊥
 
 -- the call declares an array of e
@@ -70,16 +77,17 @@ ArrayIn c (array_of m ∷ ds) e = (c.named m ≡ Some e) ⊎ ArrayIn c ds e
 abbrev pub DeclaresArray : Catalog → Call → ℕ → Type 0
 DeclaresArray c (fill os) e = ⊥
 DeclaresArray c (resolve ds) e = ArrayIn c ds e
-DeclaresArray c (bind ps fs allowed origins) e = ⊥
+DeclaresArray c (bind q) e = ⊥
 DeclaresArray c (describe o) e = ⊥
 
--- a field of the call comes from attribute a of relation r, and its column may be asked for
+-- a field comes from attribute a of relation r
 abbrev pub FieldFrom : List Field → ℕ → ℤ → Type 0
-FieldFrom [] r a = ⊥
-FieldFrom (f ∷ fs) r a = ((f.relation ≡ Some r) × (f.attribute ≡ Some a)) ⊎ FieldFrom fs r a
+FieldFrom fs r a = (f : Field) × Mem f fs × (f.relation ≡ Some r) × (f.attribute ≡ Some a)
+
+-- the column of such a field of the call may be asked for
 
 abbrev pub AsksColumn : Call → ℕ → ℤ → Type 0
 AsksColumn (fill os) r a = ⊥
 AsksColumn (resolve ds) r a = ⊥
-AsksColumn (bind ps fs allowed origins) r a = (allowed ≡ true) × (origins ≡ true) × FieldFrom fs r a
+AsksColumn (bind q) r a = (q.queries ≡ true) × (q.origins ≡ true) × FieldFrom q.fields r a
 AsksColumn (describe o) r a = ⊥

@@ -1,11 +1,11 @@
 -- The book that a step leaves which keeps its finds, computed from what it read.
 -- Assumes nothing.
-use Rattle.std.specs.Prelude.{◌&&◌, ◌-◌, ◌||◌, ◌↔◌, ◌∷◌, ◌≡◌, ◌≤◌, Bool, List, None, Option, Some, [], bytes_eq, false, if◌then◌else◌, is_some, nat_eq, option_and_then, true, ℕ, ℤ}
+use Rattle.std.specs.Prelude.{◌&&◌, ◌-◌, ◌||◌, ◌↔◌, ◌∷◌, ◌≡◌, ◌≤◌, Bool, List, None, Option, Some, [], bytes_eq, false, flat_map, if◌then◌else◌, is_some, nat_eq, option_and_then, option_map, option_to_list, true, ℕ, ℤ}
 use Rattle.std.specs.List.{list_any}
 use Rattle.std.specs.Option.{option_or}
-use Rattle.std.specs.Ordering.{int_eq}
 use Rattle.catalog.specs.Catalog.{Catalog, Laws, spent}
 use Rattle.catalog.specs.Shape.{Name}
+use Rattle.keys.specs.Senses.{Pair, same_pair}
 use Rattle.unfolding.specs.Lists.{Mem}
 use Rattle.unfolding.specs.Unfolding.{Tree, built, node}
 use Rattle.life.specs.Calls.{Call, Declared, Field, array_link, array_of, bind, describe, fill, of_name, of_oid, requests, resolve}
@@ -42,7 +42,7 @@ named_in (array_of m ∷ ds) n = bytes_eq m n || named_in ds n
 abbrev pub declares : Call → Name → Bool
 declares (fill os) n = false
 declares (resolve ds) n = named_in ds n
-declares (bind ps fs allowed origins) n = false
+declares (bind q) n = false
 declares (describe o) n = false
 
 abbrev pub array_in : Catalog → List Declared → ℕ → Bool
@@ -54,16 +54,26 @@ array_in c (array_of m ∷ ds) e = is_just nat_eq (c.named m) e || array_in c ds
 abbrev pub declares_array : Catalog → Call → ℕ → Bool
 declares_array c (fill os) e = false
 declares_array c (resolve ds) e = array_in c ds e
-declares_array c (bind ps fs allowed origins) e = false
+declares_array c (bind q) e = false
 declares_array c (describe o) e = false
 
-abbrev pub field_from : List Field → ℕ → ℤ → Bool
-field_from fs r a = list_any (λ f. is_just nat_eq f.relation r && is_just int_eq f.attribute a) fs
+-- where the fields come from that have a relation and an attribute
+abbrev pub both : Option ℕ → Option ℤ → Option Pair
+both relation attribute = option_and_then (λ r. option_map (λ a. (r, a)) attribute) relation
+
+abbrev pub source : Field → Option Pair
+source f = both f.relation f.attribute
+
+abbrev pub sources : List Field → List Pair
+sources fs = flat_map (λ f. option_to_list (source f)) fs
+
+abbrev pub is_source : List Field → ℕ → ℤ → Bool
+is_source fs r a = list_any (same_pair (r, a)) (sources fs)
 
 abbrev pub asks_column : Call → ℕ → ℤ → Bool
 asks_column (fill os) r a = false
 asks_column (resolve ds) r a = false
-asks_column (bind ps fs allowed origins) r a = allowed && (origins && field_from fs r a)
+asks_column (bind q) r a = q.queries && (q.origins && is_source q.fields r a)
 asks_column (describe o) r a = false
 
 -- the names held once these descriptors are: those held before, then pretty names, then those declared

@@ -8,11 +8,11 @@ use Rattle.catalog.specs.Shape.{Name, codes_listed}
 use Rattle.unfolding.specs.Lists.{Distinct, Mem}
 use Rattle.life.specs.Calls.{ArrayIn, Declared, array_link, array_of, of_name, of_oid, requests, resolve}
 use Rattle.life.specs.Life.{Lived}
-use Rattle.life.specs.Lists.{AtMost, is_in}
+use Rattle.life.specs.Lists.{AtMost, fresh, is_in}
 use Rattle.life.specs.Rounds.{Anything, Known, Stands, StandsOnce}
 use Rattle.life.specs.Steps.{Book, Event, LastOfCall, SomeStands}
 use Rattle.life.specs.Stops.{Offence, StopsAt}
-use Rattle.life.specs.Walk.{Walked, and_then, answered, ask_each, ended, fresh, links_of, malformed, stopped, walk}
+use Rattle.life.specs.Walk.{Walked, and_then, answered, ask_each, ended, links_of, malformed, stopped, walk}
 
 -- a row that round 1 may ask for: that of a requested OID, in full, or that of an element, for its typarray alone
 pub data Question : Type 0 where

@@ -72,7 +72,7 @@ SomeStands c b (d ∷ ds) = NameStands c b d ⊎ SomeStands c b ds
 abbrev pub NamesStand : Catalog → Book → Call → Type 0
 NamesStand c b (fill os) = ⊥
 NamesStand c b (resolve ds) = SomeStands c b ds
-NamesStand c b (bind ps fs allowed origins) = ⊥
+NamesStand c b (bind q) = ⊥
 NamesStand c b (describe o) = ⊥
 
 -- n is the last round in which anything stands of a call on a book

@@ -1,11 +1,11 @@
 -- Where a walk stops, in the order in which rows are read, and when it does not.
 -- Assumes nothing.
-use Rattle.std.specs.Prelude.{◌++◌, ◌+◌, ◌<◌, ◌↔◌, ◌∷◌, ◌≡◌, ◌≤◌, ◌⊎◌, Bool, List, [], false, length, suc, true, zero, ℕ}
+use Rattle.std.specs.Prelude.{◌++◌, ◌+◌, ◌<◌, ◌↔◌, ◌∷◌, ◌≡◌, ◌≤◌, ◌⊎◌, Bool, List, [], false, length, nat_eq, suc, true, zero, ℕ}
 use Rattle.catalog.specs.Catalog.{Catalog, Each}
 use Rattle.unfolding.specs.Lists.{Mem}
-use Rattle.life.specs.Lists.{AtMost}
+use Rattle.life.specs.Lists.{AtMost, fresh, push_all}
 use Rattle.life.specs.Rounds.{Descriptors, LastRound, Layer, Stands, StandsOnce}
-use Rattle.life.specs.Walk.{answered, ended, fresh, links_of, malformed, push_all, stopped, walk_from}
+use Rattle.life.specs.Walk.{answered, ended, links_of, malformed, stopped, walk_from}
 
 module _ (c : Catalog) (b : Descriptors) (rs : List ℕ) where
   abbrev mutual
@@ -78,8 +78,8 @@ StandingLaw = (c : Catalog) (b : Descriptors) (rs : List ℕ) (k o : ℕ) → Me
 abbrev pub QueueLaw : Type 0
 QueueLaw =
     (c : Catalog) (b : Descriptors) (rs : List ℕ) →
-    (push_all (answered b) [] rs ≡ earlier c b rs 1) ×
-    ((k : ℕ) → push_all (answered b) (earlier c b rs (suc k)) (links_of c (standing c b rs k)) ≡ earlier c b rs (suc (suc k)))
+    (push_all nat_eq (answered b) [] rs ≡ earlier c b rs 1) ×
+    ((k : ℕ) → push_all nat_eq (answered b) (earlier c b rs (suc k)) (links_of c (standing c b rs k)) ≡ earlier c b rs (suc (suc k)))
 
 -- a walk passes refusals 4 to 7 exactly if it is orderly, and tells its last round
 abbrev pub EndsLaw : Type 0

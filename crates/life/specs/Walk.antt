@@ -4,17 +4,12 @@ use Rattle.std.specs.Prelude.{◌++◌, ◌||◌, ◌∷◌, Bool, List, None, O
 use Rattle.catalog.specs.Catalog.{Catalog, CatalogRow}
 use Rattle.catalog.specs.Shape.{Shape, formed, shape}
 use Rattle.unfolding.specs.Unfolding.{built_in}
-use Rattle.life.specs.Lists.{is_in}
+use Rattle.life.specs.Lists.{fresh}
 use Rattle.life.specs.Rounds.{Descriptors}
 
 -- not to be asked for
 abbrev pub answered : Descriptors → ℕ → Bool
 answered b o = built_in o || is_some (b o)
-
--- those of a list that are neither skipped nor seen, each once, in order
-abbrev pub fresh : (ℕ → Bool) → List ℕ → List ℕ → List ℕ
-fresh skip seen [] = []
-fresh skip seen (o ∷ os) = elim (skip o || is_in o seen) [ true ↦ fresh skip seen os | false ↦ o ∷ fresh skip (o ∷ seen) os ]
 
 abbrev pub links_in : Option Shape → List ℕ
 links_in None = []
@@ -68,11 +63,3 @@ walk c skip (suc fuel) opened left (suc allowance) (o ∷ os) seen =
 -- the whole walk of a step with these requests, where nothing but OIDs stands
 abbrev pub walk_from : Catalog → Descriptors → List ℕ → Walked
 walk_from c b rs = walk c (answered b) 64 0 256 c.allowance (fresh (answered b) [] rs) []
-
--- the same, one after the other: a queue to which each OID is pushed that is neither skipped nor in it
-abbrev pub push_new : (ℕ → Bool) → List ℕ → ℕ → List ℕ
-push_new skip queue o = elim (skip o || is_in o queue) [ true ↦ queue | false ↦ queue ++ o ∷ [] ]
-
-abbrev pub push_all : (ℕ → Bool) → List ℕ → List ℕ → List ℕ
-push_all skip queue [] = queue
-push_all skip queue (o ∷ os) = push_all skip (push_new skip queue o) os
