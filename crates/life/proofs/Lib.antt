@@ -13,3 +13,5 @@ mod Fill
 mod Questions
 mod First
 mod Resolve
+mod Bind
+mod Written

@@ -70,7 +70,7 @@ declares_array_tells c (resolve ds) e = array_tells c ds e
 declares_array_tells c (bind q) e = never
 declares_array_tells c (describe o) e = never
 
-source_is : (f : Field) (r : ℕ) (a : ℤ) → (source f ≡ Some (r, a)) ↔ ((f.relation ≡ Some r) × (f.attribute ≡ Some a))
+pub source_is : (f : Field) (r : ℕ) (a : ℤ) → (source f ≡ Some (r, a)) ↔ ((f.relation ≡ Some r) × (f.attribute ≡ Some a))
 source_is f r a = (from f.relation f.attribute, λ x. λ i. both (x.0 i) (x.1 i))
   where
     from : (x : Option ℕ) (y : Option ℤ) → both x y ≡ Some (r, a) → (x ≡ Some r) × (y ≡ Some a)

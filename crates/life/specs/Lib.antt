@@ -11,3 +11,5 @@ pub mod Outcomes
 pub mod Fill
 pub mod RoundOne
 pub mod Resolve
+pub mod Bind
+pub mod Written

@@ -1,13 +1,13 @@
 -- How a computed call comes to its outcome once its rounds are walked.
 -- Assumes nothing.
-use Rattle.std.specs.Prelude.{◌&&◌, ◌↔◌, ◌≡◌, Bool, List, None, Option, Some, false, is_some, not, ℕ}
+use Rattle.std.specs.Prelude.{◌&&◌, ◌↔◌, ◌≡◌, ◌⊎◌, Bool, List, None, Option, Some, false, is_some, not, suc, true, ℕ}
 use Rattle.catalog.specs.Catalog.{Catalog, CatalogRow}
 use Rattle.unfolding.specs.Lists.{Mem}
 use Rattle.unfolding.specs.Unfolding.{HasUnfolding}
 use Rattle.life.specs.Lists.{FirstAt}
 use Rattle.life.specs.Rounds.{Descriptors}
 use Rattle.life.specs.Settle.{found}
-use Rattle.life.specs.Steps.{Book, Ending, refused}
+use Rattle.life.specs.Steps.{Book, Ending, accepted, refused}
 use Rattle.life.specs.Walk.{Walked, ended, stopped}
 
 pub record Outcome : Type 0 where
@@ -35,6 +35,13 @@ unresolved c d o = is_some (c.rows o) && not (is_some (found d o))
 -- the OID has a row and no unfolding
 abbrev pub Unresolved : Catalog → ℕ → Type 0
 Unresolved c o = ((r : CatalogRow) × (c.rows o ≡ Some r)) × (HasUnfolding c o → ⊥)
+
+-- k type rounds are told: by an accepted step, by refusal 8, 9 or 10, by 5 of layer columns, and, before the column round, by 8 of
+-- that layer
+abbrev pub TypeRounds : Ending → ℕ → Type 0
+TypeRounds (accepted types columns) k = types ≡ k
+TypeRounds (refused number place false rounds) k = ((number ≡ 8) ⊎ ((number ≡ 9) ⊎ (number ≡ 10))) × (rounds ≡ k)
+TypeRounds (refused number place true rounds) k = ((number ≡ 5) × (rounds ≡ k)) ⊎ ((number ≡ 8) × (rounds ≡ suc k))
 
 -- after n rounds it is not refused by 8
 abbrev pub Fits : Ending → ℕ → Type 0

@@ -1,6 +1,7 @@
 // The laws of a book's life: statements about the definitions of specs/, each asked for by a contract.
 #![tactic(auto)]
 
+mod binding;
 mod filling;
 mod keeping;
 mod resolving;
