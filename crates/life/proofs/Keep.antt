@@ -78,7 +78,7 @@ named_some n o p (Some (node q m h ts)) e =
 some_named : (n : Name) (o q : ℕ) (h : Head) (ts : Trees) (x : Option Tree) → x ≡ Some (node q n h ts) → option_and_then (if_named n o) x ≡ Some o
 some_named n o q h ts x e = ap (option_and_then (if_named n o)) e ∙ if_true (bytes_eq n n) (Some o) (same_bytes n n refl)
 
-pretty_some : (d : Descriptors) (n : Name) (x : Option ℕ) (p : ℕ) → pretty_in d n x ≡ Some p →
+pub pretty_some : (d : Descriptors) (n : Name) (x : Option ℕ) (p : ℕ) → pretty_in d n x ≡ Some p →
     (x ≡ Some p) × (q : ℕ) × (h : Head) × (ts : Trees) × (d p ≡ Some (node q n h ts))
 pretty_some d n None p e = absurd (not_some_none p e refl)
 pretty_some d n (Some o) p e =

@@ -15,3 +15,4 @@ mod First
 mod Resolve
 mod Bind
 mod Written
+mod Run

@@ -13,3 +13,4 @@ pub mod RoundOne
 pub mod Resolve
 pub mod Bind
 pub mod Written
+pub mod Run

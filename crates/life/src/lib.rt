@@ -4,6 +4,7 @@
 mod binding;
 mod filling;
 mod keeping;
+mod performing;
 mod resolving;
 mod rounds;
 mod steps;
