@@ -16,3 +16,4 @@ mod Resolve
 mod Bind
 mod Written
 mod Run
+mod Reading

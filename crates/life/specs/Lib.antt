@@ -14,3 +14,4 @@ pub mod Resolve
 pub mod Bind
 pub mod Written
 pub mod Run
+pub mod Reading
