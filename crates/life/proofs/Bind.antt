@@ -20,7 +20,7 @@ use Rattle.life.specs.Steps.{Book, Ending, Event, Step, TellsTypeRounds, accepte
 use Rattle.life.specs.Walk.{Walked, ended, stopped, walk_from}
 use Rattle.life.proofs.Fresh.{fresh_distinct, fresh_has, has_fresh}
 use Rattle.life.proofs.Keep.{keeping_step, lives_on}
-use Rattle.life.proofs.Life.{alive}
+use Rattle.life.proofs.Life.{fit}
 use Rattle.life.proofs.Lists.{is_none_if, mem_tells, none_not_some, not_both, same_truth, split_option}
 use Rattle.life.proofs.Outcomes.{Next, fits_none, fitted_next, offence_bare, refusal_next, refused_first, unresolved_tells}
 use Rattle.life.proofs.Tells.{asks_tells, or_first, sources_tell}
@@ -203,7 +203,7 @@ module _ (full full_columns : Book → Option ℕ) (c : Catalog) (b : Book) (q :
         let room : full (typed reads) ≡ None = fits_none (full (typed reads)) fine b n (subst (λ (o : Outcome). Fits o.ending n) over fits) in
         let told : (bind_outcome full full_columns c b q).ending ≡ fine.ending = ap (λ (o : Outcome). o.ending) (over ∙ ap (λ f. fitted f fine (λ table. refusal b 8 table n)) room) in
         refused_first (bind_outcome full full_columns c b q).ending 9 n (unresolved c d) (Unresolved c) rs
-        (unresolved_tells c b.descriptors rs (alive h c b l).sound reads (ended_reads c b.descriptors rs ⊥ 0 n reads r.0))
+        (unresolved_tells c b.descriptors rs (fit h c b l).sound reads (ended_reads c b.descriptors rs ⊥ 0 n reads r.0))
         (λ place. (λ y. (types_nine n reads x place).0 (sym told ∙ y), λ y. told ∙ (types_nine n reads x place).1 y))
 
 pub bind_law : BindLaw

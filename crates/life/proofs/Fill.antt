@@ -13,7 +13,7 @@ use Rattle.life.specs.Settle.{settled}
 use Rattle.life.specs.Steps.{Book, Event, NamesStand, TellsTypeRounds, accepts, keeps_finds, refused, rounds_told}
 use Rattle.life.specs.Walk.{Walked, ended, stopped, walk_from}
 use Rattle.life.proofs.Keep.{keeping_step, lives_on}
-use Rattle.life.proofs.Life.{alive}
+use Rattle.life.proofs.Life.{fit}
 use Rattle.life.proofs.Outcomes.{Next, fits_none, fitted_next, last_quiet, offence_bare, refusal_next, refused_first, unresolved_tells}
 use Rattle.life.proofs.Walk.{Result, ended_counts, ended_reads, walk_result}
 
@@ -72,5 +72,5 @@ nine_law full h c b call l n reads w fits =
     let room : full left ≡ None = fits_none (full left) fine b n (subst (λ (o : Outcome). Fits o.ending n) over fits) in
     let told : (outcome full c b call).ending ≡ closing n x = ap (λ (o : Outcome). o.ending) (over ∙ ap (λ f. fitted f fine (λ table. refusal b 8 table n)) room) in
     refused_first (outcome full c b call).ending 9 n (unresolved c d) (Unresolved c) rs
-    (unresolved_tells c b.descriptors rs (alive h c b l).sound reads (ended_reads c b.descriptors rs ⊥ 0 n reads r.0))
+    (unresolved_tells c b.descriptors rs (fit h c b l).sound reads (ended_reads c b.descriptors rs ⊥ 0 n reads r.0))
     (λ place. (λ y. (closing_nine n x place).0 (sym told ∙ y), λ y. told ∙ (closing_nine n x place).1 y))

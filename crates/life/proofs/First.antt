@@ -191,7 +191,7 @@ module _ (c : Catalog) (b : Book) (agree : Agrees c b) where
               arith,
               length-append (earlier c b.descriptors rs k) alone,
               o.few (earlier c b.descriptors rs k ++ alone) (all_distinct c b agree ds k)
-              (λ p m. ⊎_elim (λ s. inl (earlier_stands c b.descriptors rs k p s)) (λ a. inr ((alone_apart c b agree ds p).0 a)) (mem_split p (earlier c b.descriptors rs k) alone m)),
+                  (λ p m. ⊎_elim (λ s. inl (earlier_stands c b.descriptors rs k p s)) (λ a. inr ((alone_apart c b agree ds p).0 a)) (mem_split p (earlier c b.descriptors rs k) alone m)),
             )
 
         -- no question of round 1 is refused

@@ -1,22 +1,15 @@
 -- What `fresh_by` and `links_of` hold.
 -- Assumes nothing.
-use Rattle.std.proofs.Common.{◌++◌, ◌||◌, ◌∙◌, ◌∷◌, ◌≡◌, Bool, Decides, List, [], ap, append-nil, append_assoc, false, inl, inr, is_some, refl, subst, sym, true, ℕ, ⊎_elim}
-use Rattle.std.proofs.lemmas.Bool.{cases_Bool, or_cases, or_from, or_parts}
+use Rattle.std.proofs.Common.{◌++◌, ◌||◌, ◌∙◌, ◌∷◌, ◌≡◌, Bool, Decides, List, [], ap, append-nil, append_assoc, false, inl, inr, refl, subst, sym, true, ℕ, ⊎_elim}
+use Rattle.std.proofs.lemmas.Bool.{cases_Bool, or_cases, or_parts}
 use Rattle.std.specs.List.{list_any}
 use Rattle.catalog.specs.Catalog.{Catalog}
 use Rattle.catalog.specs.Shape.{formed}
 use Rattle.unfolding.specs.Lists.{Distinct, Mem}
-use Rattle.unfolding.specs.Unfolding.{Link, built_in}
+use Rattle.unfolding.specs.Unfolding.{Link}
 use Rattle.life.specs.Lists.{fresh_by, push_all}
-use Rattle.life.specs.Rounds.{Descriptors, Unknown}
-use Rattle.life.specs.Walk.{answered, links_in, links_of}
-use Rattle.life.proofs.Lists.{is_none_if, mem_left, mem_right, mem_split, mem_tells, none_not_some, not_both, split_option}
-
-pub unanswered : (b : Descriptors) (o : ℕ) → answered b o ≡ false → Unknown b o
-unanswered b o e = let h = or_parts (built_in o) (is_some (b o)) e in (h.0, is_none_if (b o) h.1)
-
-pub answered_not : (b : Descriptors) (o : ℕ) → Unknown b o → answered b o ≡ false
-answered_not b o u = or_from (built_in o) (is_some (b o)) u.0 (none_not_some (b o) u.1)
+use Rattle.life.specs.Walk.{links_in, links_of}
+use Rattle.life.proofs.Lists.{mem_left, mem_right, mem_split, mem_tells, not_both, split_option}
 
 module _ {A : Type 0} (same : A → A → Bool) (tells : (x y : A) → Decides (same x y) (x ≡ y)) (skip : A → Bool) where
   passes : (seen : List A) (x : A) (xs : List A) → (skip x || list_any (same x) seen) ≡ true → fresh_by same skip seen (x ∷ xs) ≡ fresh_by same skip seen xs

@@ -1,6 +1,6 @@
 -- The book that a keeping step leaves is the law's. Assumes nothing.
-use Rattle.std.proofs.Common.{◌&&◌, ◌-◌, ◌||◌, ◌↔◌, ◌∙◌, ◌≡◌, ◌≤◌, ◌⊎◌, Bool, List, None, Option, Some, ap, arith, bytes_eq, cond, eq-eqb, false, inl, inr, is_some, nat_eq, option_and_then, refl, subst, suc, sym, true, zero, ℕ, ⊎_elim}
-use Rattle.std.proofs.lemmas.Bool.{and_from, and_parts, cases_Bool, or_cases, or_left, or_right}
+use Rattle.std.proofs.Common.{◌&&◌, ◌-◌, ◌||◌, ◌↔◌, ◌∙◌, ◌≡◌, ◌≤◌, ◌⊎◌, Bool, List, None, Option, Some, ap, arith, bytes_eq, cond, eq-eqb, false, inl, inr, is_some, nat_eq, option_and_then, refl, subst, sym, true, ℕ, ⊎_elim}
+use Rattle.std.proofs.lemmas.Bool.{and_from, and_parts, or_cases, or_left, or_right}
 use Rattle.std.specs.Option.{option_or}
 use Rattle.catalog.specs.Catalog.{Catalog, Grows, Laws, spent}
 use Rattle.catalog.specs.Shape.{Head, Name}
@@ -8,63 +8,53 @@ use Rattle.unfolding.specs.Lists.{Mem}
 use Rattle.unfolding.specs.Unfolding.{Link, Tree, Trees, Unfolds, built, built_in, node}
 use Rattle.life.specs.Calls.{Call, Declares, DeclaresArray, array_link, requests}
 use Rattle.life.specs.Keep.{KeepingLaw, LeavingLaw, LivesOn, asks_column, call_event, declares, declares_array, if_named, if_settled, kept, pretty_in}
-use Rattle.life.specs.Life.{Agrees, Lived}
+use Rattle.life.specs.Life.{Lived}
 use Rattle.life.specs.Lists.{is_in}
-use Rattle.life.specs.Rounds.{Descriptors, Known, Layer, Stands, StandsOnce, Unknown}
-use Rattle.life.specs.Settle.{found, settled}
+use Rattle.life.specs.Rounds.{Descriptors, Known, StandsOnce, Unknown, found}
+use Rattle.life.specs.Settle.{settled}
 use Rattle.life.specs.Steps.{Book, Ending, Event, KeepsArrays, KeepsColumns, KeepsDescriptors, KeepsNames, LastOfCall, LedTo, PrettyName, Step, TellsTypeRounds, accepted, accepts, keeps_finds, refused, rounds_told}
-use Rattle.life.proofs.Life.{Has, Holds, Sound, agrees, alive, holds, led, met, pretty_leads}
+use Rattle.life.proofs.Known.{Right, found_held, found_right, found_tells}
+use Rattle.life.proofs.Life.{Fit, Met, Sound, fit, met, met_unless, pretty_leads}
 use Rattle.life.proofs.Lists.{bytes_same, in_mem, mem_in, not_both, not_some_none, same_bytes, same_some, split_option}
-use Rattle.life.proofs.Settle.{found_good, found_held, found_tells, settled_complete, settled_ext, settled_good, settled_only}
-use Rattle.life.proofs.Standing.{layer_unknown, link_stands}
+use Rattle.life.proofs.Settle.{settled_complete, settled_ext, settled_only, settled_right}
+use Rattle.life.proofs.Standing.{link_stands, stands_led, stands_unknown}
 use Rattle.life.proofs.Tells.{asks_tells, declares_array_tells, declares_tells, if_some, if_true, or_adds, or_first, or_next, or_some}
 
 module _ (c : Catalog) (b : Descriptors) (rs : List ℕ) (sound : Sound c b) (reads : List ℕ) (are : (o : ℕ) → Mem o reads ↔ StandsOnce c b rs o) where
-  read_layer : (o : ℕ) → Mem o reads → (k : ℕ) × Layer c b rs k o
-  read_layer o m = let x = (are o).0 m in go x.0 x.1
-    where
-      go : (k : ℕ) → Stands c b rs k o → (j : ℕ) × Layer c b rs j o
-      go zero h = absurd h
-      go (suc k) h = (k, h)
-
   read_unknown : (o : ℕ) → Mem o reads → Unknown b o
-  read_unknown o m = let x = read_layer o m in layer_unknown c b rs x.0 o x.1
+  read_unknown o m = stands_unknown c b rs o ((are o).0 m)
 
-  near : (o : ℕ) → (Unknown b o → (k : ℕ) × Layer c b rs k o) → (built_in o ≡ true) ⊎ (Has b o ⊎ Mem o reads)
-  near o f =
-      ⊎_elim
-      (λ y. inl y)
-      (λ nb. ⊎_elim (λ x. let l = f (nb, x) in inr (inr ((are o).1 (suc l.0, l.1)))) (λ h. inr (inl h)) (split_option (b o)))
-      (cases_Bool (built_in o))
+  -- what is met is known or read
+  near : (o : ℕ) → Met c b rs o → Known b o ⊎ Mem o reads
+  near o = ⊎_elim (λ k. inl k) (λ s. inr ((are o).1 s))
 
-  reads_closed : (o p : ℕ) → Mem o reads → Link c o p → (built_in p ≡ true) ⊎ (Has b p ⊎ Mem p reads)
-  reads_closed o p m l = let x = read_layer o m in near p (λ u. link_stands c b rs x.0 o p x.1 l u)
+  reads_closed : (o p : ℕ) → Mem o reads → Link c o p → Known b p ⊎ Mem p reads
+  reads_closed o p m l = near p (met_unless c b rs p (λ u. link_stands c b rs o p ((are o).0 m) l u))
 
-  pub settled_right : (o : ℕ) (t : Tree) → settled c b reads o ≡ Some t → Unfolds c o t
-  settled_right = settled_good c b reads (λ p m. (read_unknown p m).0) sound.right
+  pub kept_right : Right c (settled c b reads)
+  kept_right = settled_right c b reads (λ p m. (read_unknown p m).0) sound.right
 
   -- what the passes leave is what a step keeps
   pub settled_keeps : KeepsDescriptors c rs b (settled c b reads)
   settled_keeps o t = (
     λ x.
         ⊎_elim
-        (λ y. inr ((are o).0 y, settled_right o t x))
+        (λ y. inr ((are o).0 y, kept_right o t x))
         (λ h. inl (h.1 ∙ ap (λ u. Some u) (same_some (settled_ext c b reads o h.0 h.1) x)))
         (settled_only c b reads o (t, x)),
     ⊎_elim
         (λ x. settled_ext c b reads o t x)
         (λ x.
         let m = (are o).1 x.0 in
-        sym (found_held (settled c b reads) o (read_unknown o m).0) ∙ settled_complete c b reads sound.right (λ p k. (read_unknown p k).0) reads_closed o t (inr (inr m)) x.1),
+        sym (found_held (settled c b reads) o (read_unknown o m).0) ∙ settled_complete c b reads sound.right (λ p k. (read_unknown p k).0) reads_closed o t (inr m) x.1),
   )
 
-  -- a requested OID is found after the passes exactly if it has an unfolding
-  pub request_found : (r : ℕ) (t : Tree) → Mem r rs → Unfolds c r t → found (settled c b reads) r ≡ Some t
-  request_found r t m u =
-      settled_complete c b reads sound.right (λ p k. (read_unknown p k).0) reads_closed r t (near r (λ x. (0, (m, x)))) u
-
-  pub found_request : (r : ℕ) (t : Tree) → found (settled c b reads) r ≡ Some t → Unfolds c r t
-  found_request r t x = found_good c (settled c b reads) settled_right r t x
+  -- a requested OID is found after the passes exactly with its unfolding
+  pub request_found : (r : ℕ) (t : Tree) → Mem r rs → (found (settled c b reads) r ≡ Some t) ↔ Unfolds c r t
+  request_found r t m = (
+    found_right c (settled c b reads) kept_right r t,
+    settled_complete c b reads sound.right (λ p k. (read_unknown p k).0) reads_closed r t (near r (met_unless c b rs r (λ u. (1, (m, u))))),
+  )
 
 named_some : (n : Name) (o p : ℕ) (x : Option Tree) → option_and_then (if_named n o) x ≡ Some p →
     (q : ℕ) × (h : Head) × (ts : Trees) × (o ≡ p) × (x ≡ Some (node q n h ts))
@@ -104,7 +94,7 @@ lower c n = record { rows_stay = λ o r e. e; named_stay = λ m o e. e; columns_
 raise : (c : Catalog) (n : ℕ) → Grows (spent c n) c
 raise c n = record { rows_stay = λ o r e. e; named_stay = λ m o e. e; columns_stay = λ r a k e. e }
 
-module _ (c : Catalog) (b : Book) (call : Call) (reads : List ℕ) (laws : Laws c) (sound : Sound c b.descriptors) (agree : Agrees c b) (tell : Holds c b)
+module _ (c : Catalog) (b : Book) (call : Call) (reads : List ℕ) (laws : Laws c) (fits : Fit c b)
     (are : (o : ℕ) → Mem o reads ↔ StandsOnce c b.descriptors (requests c call) o) (done : Bool) where
   abbrev rs : List ℕ
   rs = requests c call
@@ -115,8 +105,8 @@ module _ (c : Catalog) (b : Book) (call : Call) (reads : List ℕ) (laws : Laws 
   abbrev b' : Book
   b' = kept c call reads b done
 
-  right : (o : ℕ) (t : Tree) → d o ≡ Some t → Unfolds c o t
-  right = settled_right c b.descriptors rs sound reads are
+  right : Right c d
+  right = kept_right c b.descriptors rs fits.sound reads are
 
   -- the names that are new
   abbrev NewName : Name → ℕ → Type 0
@@ -153,7 +143,7 @@ module _ (c : Catalog) (b : Book) (call : Call) (reads : List ℕ) (laws : Laws 
   names_kept : KeepsNames c call b b'
   names_kept n o =
       or_adds (b.names n) (new_name n) o (new_names n o)
-      (λ y. (λ _. names_new n o y, λ p z. same_some (agree.names n p z) (leads_so n o y)))
+      (λ y. (λ _. names_new n o y, λ p z. same_some (fits.agrees.names n p z) (leads_so n o y)))
 
   abbrev NewArray : ℕ → ℕ → Type 0
   NewArray e a = (array_link (c.rows e) ≡ Some a) × (DeclaresArray c call e ⊎ ((built_in e ≡ false) × LedTo c rs e))
@@ -163,11 +153,9 @@ module _ (c : Catalog) (b : Book) (call : Call) (reads : List ℕ) (laws : Laws 
   row_asked e a (x, inl y) unheld = or_right (is_in e reads) (declares_array c call e) ((declares_array_tells c call e).1 y)
   row_asked e a (x, inr y) unheld =
       ⊎_elim
-      (λ z. absurd (not_both z y.0))
-      (⊎_elim
-      (λ h. absurd (not_some_none a (tell.array_held e a h x) unheld))
-      (λ f. or_left (is_in e reads) (declares_array c call e) (mem_in e reads ((are e).1 (suc f.0, f.1)))))
-      (met c b.descriptors rs sound y.1.0 y.1.1 e y.1.2)
+      (⊎_elim (λ z. absurd (not_both z y.0)) (λ h. absurd (not_some_none a (fits.array_held e a h x) unheld)))
+      (λ s. or_left (is_in e reads) (declares_array c call e) (mem_in e reads ((are e).1 s)))
+      (met c b.descriptors rs fits.sound e y.1)
 
   arrays_kept : KeepsArrays c call rs b b'
   arrays_kept e a =
@@ -177,15 +165,14 @@ module _ (c : Catalog) (b : Book) (call : Call) (reads : List ℕ) (laws : Laws 
         z.1,
         ⊎_elim
             (λ m.
-            let r = in_mem e reads m in
-            let f = read_layer c b.descriptors rs sound reads are e r in
-            inr ((read_unknown c b.descriptors rs sound reads are e r).0, led c b.descriptors rs f.0 e f.1))
+            let s = (are e).0 (in_mem e reads m) in
+            inr ((stands_unknown c b.descriptors rs e s).0, stands_led c b.descriptors rs e s))
             (λ m. inl ((declares_array_tells c call e).0 m))
             (or_cases (is_in e reads) (declares_array c call e) z.0),
       ))
       (λ y. (
         λ unheld. if_true (is_in e reads || declares_array c call e) (array_link (c.rows e)) (row_asked e a y unheld) ∙ y.0,
-        λ v z. same_some (agree.arrays e v z) y.0,
+        λ v z. same_some (fits.agrees.arrays e v z) y.0,
       ))
 
   columns_kept : KeepsColumns c call done b b'
@@ -197,7 +184,7 @@ module _ (c : Catalog) (b : Book) (call : Call) (reads : List ℕ) (laws : Laws 
       (w.0, (asks_tells call r a).0 w.1, z.1))
       (λ y. (
         λ _. if_true (done && asks_column call r a) (c.columns r a) (and_from done (asks_column call r a) y.0 ((asks_tells call r a).1 y.1)) ∙ y.2,
-        λ v z. same_some (agree.columns r a v z) y.2,
+        λ v z. same_some (fits.agrees.columns r a v z) y.2,
       ))
 
 -- the step itself, of the book that the call met
@@ -206,18 +193,16 @@ pub keeping_step : (h : List Event) (c : Catalog) (b : Book) (call : Call) (e : 
     keeps_finds e ≡ true → ((k : ℕ) → TellsTypeRounds e k → n ≡ k) → rounds_told e ≤ c.allowance →
     Step (call_event c call e) b (kept c call reads b (accepts e))
 keeping_step h c b call e reads n laws l are last keeps tells_it le =
-    let sound = (alive h c b l).sound in
-    let agree = agrees h c b l in
-    let tell = holds h c b l in
+    let fits = fit h c b l in
     record {
       laws = laws;
       stays = lower c (c.allowance - rounds_told e);
       adds_nothing = raise c (c.allowance - rounds_told e);
       lowers = omega arith;
-      descriptors = λ _. settled_keeps c b.descriptors (requests c call) sound reads are;
-      names = λ _. names_kept c b call reads laws sound agree tell are (accepts e);
-      arrays = λ _. arrays_kept c b call reads laws sound agree tell are (accepts e);
-      columns = columns_kept c b call reads laws sound agree tell are (accepts e);
+      descriptors = λ _. settled_keeps c b.descriptors (requests c call) fits.sound reads are;
+      names = λ _. names_kept c b call reads laws fits are (accepts e);
+      arrays = λ _. arrays_kept c b call reads laws fits are (accepts e);
+      columns = columns_kept c b call reads laws fits are (accepts e);
       leaves = λ y. absurd (not_both keeps y);
       counts = λ k y. subst (LastOfCall c b call) (tells_it k y) last;
     }

@@ -1,5 +1,6 @@
 mod Lists
 mod Fresh
+mod Known
 mod Standing
 mod Life
 mod Asking

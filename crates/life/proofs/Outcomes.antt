@@ -8,11 +8,11 @@ use Rattle.life.specs.Calls.{Call}
 use Rattle.life.specs.Keep.{call_event}
 use Rattle.life.specs.Lists.{first_place}
 use Rattle.life.specs.Outcomes.{Fits, Outcome, RefusedAtFirst, Unresolved, fitted, refusal, unresolved}
-use Rattle.life.specs.Rounds.{Descriptors, LastRound, StandsOnce}
-use Rattle.life.specs.Settle.{found, settled}
+use Rattle.life.specs.Rounds.{Descriptors, LastRound, StandsOnce, found}
+use Rattle.life.specs.Settle.{settled}
 use Rattle.life.specs.Steps.{Book, Ending, Step, keeps_finds, refused}
 use Rattle.life.specs.Stops.{Offence}
-use Rattle.life.proofs.Keep.{found_request, leaving_step, request_found}
+use Rattle.life.proofs.Keep.{leaving_step, request_found}
 use Rattle.life.proofs.Life.{Sound}
 use Rattle.life.proofs.Lists.{Agree, is_some_if, not_both, place_first, place_some, split_option}
 
@@ -76,8 +76,8 @@ module _ (c : Catalog) (b : Descriptors) (rs : List ℕ) (sound : Sound c b) (re
   unresolved_tells o m = (
     λ e.
         let v = and_parts (is_some (c.rows o)) (not (is_some (found d o))) e in
-        (is_some_if (c.rows o) v.0, λ u. not_both (ap is_some (request_found c b rs sound reads are o u.0 m u.1)) (not-true (is_some (found d o)) v.1)),
+        (is_some_if (c.rows o) v.0, λ u. not_both (ap is_some ((request_found c b rs sound reads are o u.0 m).1 u.1)) (not-true (is_some (found d o)) v.1)),
     λ y.
-        let unfound : found d o ≡ None = ⊎_elim (λ z. z) (λ z. absurd (y.1 (z.0, found_request c b rs sound reads are o z.0 z.1))) (split_option (found d o)) in
+        let unfound : found d o ≡ None = ⊎_elim (λ z. z) (λ z. absurd (y.1 (z.0, (request_found c b rs sound reads are o z.0 m).0 z.1))) (split_option (found d o)) in
         λ i. is_some (y.0.1 i) && not (is_some (unfound i)),
   )

@@ -1,12 +1,11 @@
 -- What the questions of round 1 hold: those in full are the requests, those for arrays alone known elements without one.
 -- Assumes nothing.
-use Rattle.std.proofs.Common.{◌++◌, ◌+◌, ◌||◌, ◌↔◌, ◌∙◌, ◌∷◌, ◌≡◌, ◌⊎◌, Bool, Decides, List, None, Option, Some, [], ap, arith, false, inl, inr, is_some, length, nat_eq, not, option_to_list, refl, subst, sym, true, ℕ, ⊎_elim}
-use Rattle.std.proofs.lemmas.Bool.{cases_Bool, not-false, or_cases, or_from, or_left, or_parts, or_right}
+use Rattle.std.proofs.Common.{◌++◌, ◌+◌, ◌||◌, ◌↔◌, ◌∙◌, ◌∷◌, ◌≡◌, ◌⊎◌, Bool, List, None, Option, Some, [], ap, arith, false, inl, inr, is_some, length, nat_eq, not, option_to_list, refl, subst, sym, true, ℕ, ⊎_elim}
+use Rattle.std.proofs.lemmas.Bool.{cases_Bool, not-false, or_from, or_parts}
 use Rattle.std.proofs.lemmas.Bool.Decides.{Decides-eqb}
 use Rattle.catalog.specs.Catalog.{Catalog, Each}
 use Rattle.catalog.specs.Shape.{Name}
 use Rattle.unfolding.specs.Lists.{Distinct, Mem}
-use Rattle.unfolding.specs.Unfolding.{built_in}
 use Rattle.life.specs.Calls.{ArrayIn, Declared, all_requests, array_link, array_of, entry_requests, of_name, of_oid, requests, resolve, with_array}
 use Rattle.life.specs.Life.{Agrees}
 use Rattle.life.specs.Lists.{fresh, is_in}
@@ -16,9 +15,10 @@ use Rattle.life.specs.Steps.{Book}
 use Rattle.life.specs.Stops.{earlier, standing}
 use Rattle.life.specs.Walk.{answered, malformed}
 use Rattle.life.proofs.Asking.{each_mem}
-use Rattle.life.proofs.Fresh.{answered_not, fresh_distinct, fresh_has, has_fresh}
-use Rattle.life.proofs.Lists.{distinct_append, is_none_if, is_some_if, mem_left, mem_right, mem_split, none_not_some, not_both, split_option}
-use Rattle.life.proofs.Standing.{earlier_distinct, in_before, layer_unknown, stood}
+use Rattle.life.proofs.Fresh.{fresh_distinct, fresh_has, has_fresh}
+use Rattle.life.proofs.Known.{answered_tells, known_not}
+use Rattle.life.proofs.Lists.{distinct_append, is_none_if, mem_left, mem_right, mem_split, none_not_some, split_option}
+use Rattle.life.proofs.Standing.{earlier_distinct, earlier_stands, stands_unknown}
 use Rattle.life.proofs.Tells.{or_first, or_next}
 
 pub full_mem : (o : ℕ) (qs : List Question) → Mem o (asked_in_full qs) → Mem (in_full o) qs
@@ -94,17 +94,11 @@ module _ (c : Catalog) (b : Book) where
       through for_arrays_alone (spared c b e || is_in e apart) (asked_once c b seen apart qs) (for_array e ∷ asked_once c b seen (e ∷ apart) qs)
       ∙ (λ i. elim (spared c b e || is_in e apart) as (λ _. List ℕ) [ true ↦ once_alone qs seen apart i | false ↦ e ∷ once_alone qs seen (e ∷ apart) i ])
 
-  answered_tells : (o : ℕ) → Decides (skip o) (Known b.descriptors o)
-  answered_tells o = (
-    λ t. ⊎_elim (λ y. inl y) (λ y. inr (is_some_if (b.descriptors o) y)) (or_cases (built_in o) (is_some (b.descriptors o)) t),
-    ⊎_elim (or_left (built_in o) (is_some (b.descriptors o))) (λ y. or_right (built_in o) (is_some (b.descriptors o)) (ap is_some y.1)),
-  )
-
   -- not spared: known, and the book holds no array of it
   unspared : (e : ℕ) → (spared c b e ≡ false) ↔ (Known b.descriptors e × (b.arrays e ≡ None))
   unspared e = (
-    λ x. let h = or_parts (not (skip e)) (is_some (b.arrays e)) x in ((answered_tells e).0 (not-false (skip e) h.0), is_none_if (b.arrays e) h.1),
-    λ y. or_from (not (skip e)) (is_some (b.arrays e)) (ap not ((answered_tells e).1 y.0)) (none_not_some (b.arrays e) y.1),
+    λ x. let h = or_parts (not (skip e)) (is_some (b.arrays e)) x in ((answered_tells b.descriptors e).0 (not-false (skip e) h.0), is_none_if (b.arrays e) h.1),
+    λ y. or_from (not (skip e)) (is_some (b.arrays e)) (ap not ((answered_tells b.descriptors e).1 y.0)) (none_not_some (b.arrays e) y.1),
   )
 
   module _ (agree : Agrees c b) where
@@ -211,7 +205,7 @@ module _ (c : Catalog) (b : Book) where
       pub element_read : (e : ℕ) → ArrayIn c ds e → b.arrays e ≡ None → Mem e (asked_in_full qs) ⊎ Mem e (for_arrays_alone qs)
       element_read e m z =
           ⊎_elim
-          (λ y. inr ((alone_apart e).1 (m, (answered_tells e).0 y, z)))
+          (λ y. inr ((alone_apart e).1 (m, (answered_tells b.descriptors e).0 y, z)))
           (λ y.
           inl (subst (Mem e) (sym (once_full (all_asks c b ds) [] []))
           (has_fresh nat_eq Decides-eqb skip (asked_in_full (all_asks c b ds)) [] e (mem_full e (all_asks c b ds) (in_both ds e m).1) y (λ x. x))))
@@ -222,6 +216,4 @@ module _ (c : Catalog) (b : Book) where
       all_distinct k =
           distinct_append (earlier c b.descriptors rs k) (for_arrays_alone qs) (earlier_distinct c b.descriptors rs k)
           (subst Distinct (sym round_alone) (fresh_distinct nat_eq Decides-eqb (spared c b) (for_arrays_alone (all_asks c b ds)) []))
-          (λ o m n.
-          let s = stood c b.descriptors rs k o (in_before c b.descriptors rs k o m) in
-          not_both ((answered_tells o).1 ((alone_apart o).0 n).1) (answered_not b.descriptors o (layer_unknown c b.descriptors rs s.0 o s.1)))
+          (λ o m n. known_not b.descriptors o ((alone_apart o).0 n).1 (stands_unknown c b.descriptors rs o (earlier_stands c b.descriptors rs k o m)))

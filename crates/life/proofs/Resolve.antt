@@ -20,7 +20,7 @@ use Rattle.life.specs.Steps.{Book, Ending, Event, SomeStands, Step, TellsTypeRou
 use Rattle.life.specs.Walk.{Walked, ended, stopped}
 use Rattle.life.proofs.First.{Come, Stop, resolve_come}
 use Rattle.life.proofs.Keep.{keeping_step, lives_on, settled_leads}
-use Rattle.life.proofs.Life.{agrees, alive}
+use Rattle.life.proofs.Life.{agrees, fit}
 use Rattle.life.proofs.Lists.{in_mem, mem_in, mem_left, mem_right, not_both, not_some_none, place_no, place_some, place_yes, same_truth, split_option}
 use Rattle.life.proofs.Outcomes.{Bare, Next, fits_none, fitted_next, offence_bare, refusal_next, refused_first, unresolved_tells}
 use Rattle.life.proofs.Questions.{alone_apart, element_read, entry_full, lead_is, link_is, round_full}
@@ -256,7 +256,7 @@ module _ (full : Book → Option ℕ) (h : List Event) (c : Catalog) (b : Book) 
   offends_tells x m =
       let agree = agrees h c b l in
       let come = subst (Come c b agree ds) w (resolve_come c b agree ds) in
-      let test = unresolved_tells c b.descriptors (requests c (resolve ds)) (alive h c b l).sound reads (read_so c b agree ds n reads come.0.0) in
+      let test = unresolved_tells c b.descriptors (requests c (resolve ds)) (fit h c b l).sound reads (read_so c b agree ds n reads come.0.0) in
       let any = any_mem (unresolved c d) (asked_in_full (entry_asks c b x)) in (
         λ t.
             let r = any.0 t in

@@ -25,7 +25,7 @@ use Rattle.life.proofs.Bind.{bind_step}
 use Rattle.life.proofs.Fill.{quiet_step}
 use Rattle.life.proofs.First.{Come, Stop, resolve_come}
 use Rattle.life.proofs.Keep.{keeping_step, leaving_step, pretty_some}
-use Rattle.life.proofs.Life.{agrees, alive, holds, lifetime_law}
+use Rattle.life.proofs.Life.{agrees, fit, lifetime_law}
 use Rattle.life.proofs.Lists.{not_both, not_some_none, split_option}
 use Rattle.life.proofs.Resolve.{resolve_step}
 use Rattle.life.proofs.Tells.{or_first, or_next}
@@ -160,8 +160,8 @@ same_book h c b o l = λ i. record {
         (λ y. y ∙ sym z)
         (λ y.
         let p = pretty_some b.descriptors n (c.named n) y.0 y.1 in
-        let u = (alive h c b l).sound.right y.0 (node p.1 n p.2 p.3) p.4 in
-        absurd (not_some_none y.0 ((holds h c b l).pretty_held n y.0 (p.2, p.3, p.4 ∙ ap (λ v. Some (node v n p.2 p.3)) (sym u.3))) z))
+        let u = (fit h c b l).sound.right y.0 (node p.1 n p.2 p.3) p.4 in
+        absurd (not_some_none y.0 ((fit h c b l).pretty_held n y.0 (p.2, p.3, p.4 ∙ ap (λ v. Some (node v n p.2 p.3)) (sym u.3))) z))
         (split_option (pretty_in b.descriptors n (c.named n))))
         (λ z. or_first (b.names n) _ z.0 z.1 ∙ sym z.1)
         (split_option (b.names n))

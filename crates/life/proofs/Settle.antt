@@ -1,15 +1,15 @@
 -- The passes settle exactly the OIDs read that have an unfolding. Assumes nothing.
-use Rattle.std.proofs.Common.{◌+◌, ◌<◌, ◌∙◌, ◌∷◌, ◌≡◌, ◌≤◌, ◌⊎◌, Decides, List, None, Option, Some, [], ap, arith, bytes_eq, cond, eq-eqb, eqb-true, false, inl, inr, is_some, length, nat_eq, option_and_then, option_map, refl, subst, suc, sym, true, zero, ℕ, ⊎_elim}
+use Rattle.std.proofs.Common.{◌+◌, ◌<◌, ◌∙◌, ◌∷◌, ◌≡◌, ◌≤◌, ◌⊎◌, List, None, Option, Some, [], ap, arith, bytes_eq, cond, eq-eqb, eqb-true, false, inl, inr, is_some, length, nat_eq, option_and_then, option_map, refl, subst, suc, sym, true, zero, ℕ, ⊎_elim}
 use Rattle.std.proofs.lemmas.Bool.{cases_Bool}
 use Rattle.catalog.specs.Catalog.{Catalog}
 use Rattle.catalog.specs.Shape.{Shape, formed}
 use Rattle.unfolding.specs.Lists.{Mem}
 use Rattle.unfolding.specs.Unfolding.{Link, Tree, Trees, UnfoldAll, Unfolds, built, built_in, more, node, none}
 use Rattle.unfolding.proofs.Unfolding.{unique}
-use Rattle.life.specs.Rounds.{Descriptors, Known}
-use Rattle.life.specs.Settle.{PassesLaw, Still, found, gather, joined, made, made_of, pass, passes, put, put_if, settle_one, settled}
-use Rattle.life.proofs.Life.{Has}
-use Rattle.life.proofs.Lists.{is_some_if, not_both, not_some_none, same_some, split_option}
+use Rattle.life.specs.Rounds.{Described, Descriptors, Known, found}
+use Rattle.life.specs.Settle.{PassesLaw, Still, gather, joined, made, made_of, pass, passes, put, put_if, settle_one, settled}
+use Rattle.life.proofs.Known.{Right, found_built, found_held, found_right, known_not}
+use Rattle.life.proofs.Lists.{not_both, not_some_none, split_option}
 
 -- all that b holds d holds too
 abbrev pub Ext : Descriptors → Descriptors → Type 0
@@ -31,33 +31,7 @@ map_some : {A B : Type 0} (f : A → B) (x : Option A) (y : B) → option_map f 
 map_some f None y e = absurd (not_some_none y e refl)
 map_some f (Some a) y e = (a, refl, cc)
 
-pub found_built : (b : Descriptors) (o : ℕ) → built_in o ≡ true → found b o ≡ Some (built o)
-found_built b o e = ap (λ x. cond x (Some (built o)) (b o)) e
-
-pub found_held : (b : Descriptors) (o : ℕ) → built_in o ≡ false → found b o ≡ b o
-found_held b o e = ap (λ x. cond x (Some (built o)) (b o)) e
-
-pub found_tells : (b : Descriptors) (o : ℕ) → Decides (is_some (found b o)) (Known b o)
-found_tells b o =
-    ⊎_elim
-    (λ y. (λ _. inl y, λ _. ap is_some (found_built b o y)))
-    (λ n. (
-      λ e. let x = is_some_if (found b o) e in inr (x.0, sym (found_held b o n) ∙ x.1),
-      ⊎_elim (λ y. absurd (not_both y n)) (λ h. ap is_some (found_held b o n ∙ h.1)),
-    ))
-    (cases_Bool (built_in o))
-
 module _ (c : Catalog) where
-  abbrev Good : Descriptors → Type 0
-  Good b = (o : ℕ) (t : Tree) → b o ≡ Some t → Unfolds c o t
-
-  pub found_good : (b : Descriptors) → Good b → (o : ℕ) (t : Tree) → found b o ≡ Some t → Unfolds c o t
-  found_good b g o t e =
-      ⊎_elim
-      (λ y. subst (Unfolds c o) (same_some (found_built b o y) e) (refl, y))
-      (λ n. g o t (sym (found_held b o n) ∙ e))
-      (cases_Bool (built_in o))
-
   found_ext : (b d : Descriptors) → Ext b d → (o : ℕ) (t : Tree) → found b o ≡ Some t → found d o ≡ Some t
   found_ext b d x o t e =
       ⊎_elim
@@ -65,11 +39,11 @@ module _ (c : Catalog) where
       (λ n. found_held d o n ∙ x o t (sym (found_held b o n) ∙ e))
       (cases_Bool (built_in o))
 
-  gather_good : (b : Descriptors) → Good b → (os : List ℕ) (ts : Trees) → gather b os ≡ Some ts → UnfoldAll c os ts
-  gather_good b g [] ts e = let bytes_eq : none ≡ ts = cc in subst (UnfoldAll c []) bytes_eq tt
-  gather_good b g (o ∷ os) ts e =
+  gather_right : (b : Descriptors) → Right c b → (os : List ℕ) (ts : Trees) → gather b os ≡ Some ts → UnfoldAll c os ts
+  gather_right b g [] ts e = let bytes_eq : none ≡ ts = cc in subst (UnfoldAll c []) bytes_eq tt
+  gather_right b g (o ∷ os) ts e =
       let j = joined_some (found b o) (gather b os) ts e in
-      subst (UnfoldAll c (o ∷ os)) j.4 (found_good b g o j.0 j.2, gather_good b g os j.1 j.3)
+      subst (UnfoldAll c (o ∷ os)) j.4 (found_right c b g o j.0 j.2, gather_right b g os j.1 j.3)
 
   gather_ext : (b d : Descriptors) → Ext b d → (os : List ℕ) (ts : Trees) → gather b os ≡ Some ts → gather d os ≡ Some ts
   gather_ext b d x [] ts e = e
@@ -89,10 +63,10 @@ module _ (c : Catalog) where
   pub some_made : (b : Descriptors) (o : ℕ) (s : Shape) (ts : Trees) → formed c o ≡ Some s → gather b s.links ≡ Some ts → made c b o ≡ Some (node o s.name s.head ts)
   some_made b o s ts f g = ap (option_and_then (made_of b o)) f ∙ ap (option_map (node o s.name s.head)) g
 
-  made_good : (b : Descriptors) → Good b → (o : ℕ) → built_in o ≡ false → (t : Tree) → made c b o ≡ Some t → Unfolds c o t
-  made_good b g o nb t e =
+  made_right : (b : Descriptors) → Right c b → (o : ℕ) → built_in o ≡ false → (t : Tree) → made c b o ≡ Some t → Unfolds c o t
+  made_right b g o nb t e =
       let m = made_some b o t e in
-      subst (Unfolds c o) m.4 (m.0, m.2, nb, refl, refl, refl, gather_good b g m.0.links m.1 m.3)
+      subst (Unfolds c o) m.4 (m.0, m.2, nb, refl, refl, refl, gather_right b g m.0.links m.1 m.3)
 
   made_ext : (b d : Descriptors) → Ext b d → (o : ℕ) (t : Tree) → made c b o ≡ Some t → made c d o ≡ Some t
   made_ext b d x o t e =
@@ -136,29 +110,29 @@ module _ (c : Catalog) where
   passes_ext reads zero b p t e = e
   passes_ext reads (suc n) b p t e = passes_ext reads n (pass c b reads) p t (pass_ext reads b p t e)
 
-  one_good : (b : Descriptors) (o : ℕ) → built_in o ≡ false → Good b → Good (settle_one c b o)
-  one_good b o nb g =
+  one_right : (b : Descriptors) (o : ℕ) → built_in o ≡ false → Right c b → Right c (settle_one c b o)
+  one_right b o nb g =
       ⊎_elim
-      (λ x. subst Good (sym x.0) g)
+      (λ x. subst (Right c) (sym x.0) g)
       (λ x.
-      subst Good (sym x.3)
+      subst (Right c) (sym x.3)
       (λ p t e.
       ⊎_elim
-      (λ y. subst (λ q. Unfolds c q t) (sym y.0) (made_good b g o nb t (x.2 ∙ sym y.1 ∙ e)))
+      (λ y. subst (λ q. Unfolds c q t) (sym y.0) (made_right b g o nb t (x.2 ∙ sym y.1 ∙ e)))
       (λ y. g p t (sym y.1 ∙ e))
       (put_cases b o x.0 p)))
       (one_cases b o)
 
-  pass_good : (os : List ℕ) (b : Descriptors) → ((o : ℕ) → Mem o os → built_in o ≡ false) → Good b → Good (pass c b os)
-  pass_good [] b nb g = g
-  pass_good (o ∷ os) b nb g = pass_good os (settle_one c b o) (λ p m. nb p (inr m)) (one_good b o (nb o (inl refl)) g)
+  pass_right : (os : List ℕ) (b : Descriptors) → ((o : ℕ) → Mem o os → built_in o ≡ false) → Right c b → Right c (pass c b os)
+  pass_right [] b nb g = g
+  pass_right (o ∷ os) b nb g = pass_right os (settle_one c b o) (λ p m. nb p (inr m)) (one_right b o (nb o (inl refl)) g)
 
-  passes_good : (reads : List ℕ) (n : ℕ) (b : Descriptors) → ((o : ℕ) → Mem o reads → built_in o ≡ false) → Good b → Good (passes c reads n b)
-  passes_good reads zero b nb g = g
-  passes_good reads (suc n) b nb g = passes_good reads n (pass c b reads) nb (pass_good reads b nb g)
+  passes_right : (reads : List ℕ) (n : ℕ) (b : Descriptors) → ((o : ℕ) → Mem o reads → built_in o ≡ false) → Right c b → Right c (passes c reads n b)
+  passes_right reads zero b nb g = g
+  passes_right reads (suc n) b nb g = passes_right reads n (pass c b reads) nb (pass_right reads b nb g)
 
   -- only rows read are settled
-  one_only : (b : Descriptors) (o p : ℕ) → Has (settle_one c b o) p → (p ≡ o) ⊎ Has b p
+  one_only : (b : Descriptors) (o p : ℕ) → Described (settle_one c b o) p → (p ≡ o) ⊎ Described b p
   one_only b o p h =
       ⊎_elim
       (λ x. inr (h.0, sym (ap (λ (d : Descriptors). d p) x.0) ∙ h.1))
@@ -169,7 +143,7 @@ module _ (c : Catalog) where
       (put_cases b o x.0 p))
       (one_cases b o)
 
-  pass_only : (os : List ℕ) (b : Descriptors) (p : ℕ) → Has (pass c b os) p → Mem p os ⊎ Has b p
+  pass_only : (os : List ℕ) (b : Descriptors) (p : ℕ) → Described (pass c b os) p → Mem p os ⊎ Described b p
   pass_only [] b p h = inr h
   pass_only (o ∷ os) b p h =
       ⊎_elim
@@ -177,7 +151,7 @@ module _ (c : Catalog) where
       (λ k. ⊎_elim (λ e. inl (inl e)) (λ x. inr x) (one_only b o p k))
       (pass_only os (settle_one c b o) p h)
 
-  passes_only : (reads : List ℕ) (n : ℕ) (b : Descriptors) (p : ℕ) → Has (passes c reads n b) p → Mem p reads ⊎ Has b p
+  passes_only : (reads : List ℕ) (n : ℕ) (b : Descriptors) (p : ℕ) → Described (passes c reads n b) p → Mem p reads ⊎ Described b p
   passes_only reads zero b p h = inr h
   passes_only reads (suc n) b p h = ⊎_elim (λ m. inl m) (λ k. pass_only reads b p k) (passes_only reads n (pass c b reads) p h)
 
@@ -206,7 +180,7 @@ module _ (c : Catalog) where
   passes_still reads zero b s = refl
   passes_still reads (suc n) b s = ap (passes c reads n) (pass_still reads b s) ∙ passes_still reads n b s
 
-  one_does : (b : Descriptors) (o : ℕ) (t : Tree) → made c b o ≡ Some t → Has (settle_one c b o) o
+  one_does : (b : Descriptors) (o : ℕ) (t : Tree) → made c b o ≡ Some t → Described (settle_one c b o) o
   one_does b o t e =
       ⊎_elim
       (λ n.
@@ -217,7 +191,7 @@ module _ (c : Catalog) where
       (λ h. (h.0, one_ext b o o h.0 h.1))
       (split_option (b o))
 
-  pass_does : (os : List ℕ) (b : Descriptors) (o : ℕ) (t : Tree) → Mem o os → made c b o ≡ Some t → Has (pass c b os) o
+  pass_does : (os : List ℕ) (b : Descriptors) (o : ℕ) (t : Tree) → Mem o os → made c b o ≡ Some t → Described (pass c b os) o
   pass_does [] b o t m e = absurd m
   pass_does (p ∷ os) b o t (inl q) e =
       let h = one_does b o t e in
@@ -260,7 +234,7 @@ module _ (c : Catalog) where
   open_ext b d x [] = omega arith
   open_ext b d x (o ∷ os) = omega (arith, at_ext b d x o, open_ext b d x os)
 
-  open_less : (b d : Descriptors) → Ext b d → (os : List ℕ) (o : ℕ) → Mem o os → b o ≡ None → Has d o → left_open d os < left_open b os
+  open_less : (b d : Descriptors) → Ext b d → (os : List ℕ) (o : ℕ) → Mem o os → b o ≡ None → Described d o → left_open d os < left_open b os
   open_less b d x [] o m n h = absurd m
   open_less b d x (p ∷ os) o (inl e) n h =
       let was : open_at (b p) ≡ 1 = ap open_at (sym (ap b e) ∙ n) in
@@ -284,9 +258,9 @@ module _ (c : Catalog) where
       (still_or_due b reads)
 
   -- where nothing is left to settle, every OID near has its unfolding
-  module _ (b : Descriptors) (reads : List ℕ) (good : Good b) (still : Still c b reads) where
+  module _ (b : Descriptors) (reads : List ℕ) (right : Right c b) (still : Still c b reads) where
     abbrev Near : ℕ → Type 0
-    Near p = (built_in p ≡ true) ⊎ (Has b p ⊎ Mem p reads)
+    Near p = Known b p ⊎ Mem p reads
 
     module _ (closed : (o p : ℕ) → Mem o reads → Link c o p → Near p) where
       mutual
@@ -295,10 +269,10 @@ module _ (c : Catalog) where
         complete (node q n d ts) o u near =
             ⊎_elim
             (λ e.
-            let in_reads : Mem o reads = ⊎_elim (λ y. absurd (not_both y u.2)) (⊎_elim (λ h. absurd (not_some_none h.0 h.1 e)) (λ m. m)) near in
-            let all = completes ts u.0.links u.6 (λ p m. closed o p in_reads (u.0, u.1, m)) in
-            absurd (not_some_none (node o u.0.name u.0.head ts) (some_made b o u.0 ts u.1 all) (still o in_reads e)))
-            (λ h. found_held b o u.2 ∙ h.1 ∙ ap (λ x. Some x) (unique c o h.0 (node q n d ts) (good o h.0 h.1) u))
+            let read : Mem o reads = ⊎_elim (λ k. absurd (known_not b o k (u.2, e))) (λ m. m) near in
+            let all = completes ts u.0.links u.6 (λ p m. closed o p read (u.0, u.1, m)) in
+            absurd (not_some_none (node o u.0.name u.0.head ts) (some_made b o u.0 ts u.1 all) (still o read e)))
+            (λ h. found_held b o u.2 ∙ h.1 ∙ ap (λ x. Some x) (unique c o h.0 (node q n d ts) (right o h.0 h.1) u))
             (split_option (b o))
 
         completes : (ts : Trees) (os : List ℕ) → UnfoldAll c os ts → ((p : ℕ) → Mem p os → Near p) → gather b os ≡ Some ts
@@ -307,26 +281,28 @@ module _ (c : Catalog) where
         completes (more t ts) [] u near = absurd u
         completes (more t ts) (o ∷ os) u near = λ i. joined (complete t o u.0 (near o (inl refl)) i) (completes ts os u.1 (λ p m. near p (inr m)) i)
 
-  pub settled_still : (b : Descriptors) (reads : List ℕ) → Still c (settled c b reads) reads
+  settled_still : (b : Descriptors) (reads : List ℕ) → Still c (settled c b reads) reads
   settled_still b reads = settles reads (length reads) b (open_length b reads)
 
-  pub settled_good : (b : Descriptors) (reads : List ℕ) → ((o : ℕ) → Mem o reads → built_in o ≡ false) → Good b → Good (settled c b reads)
-  settled_good b reads = passes_good reads (length reads) b
+  pub settled_right : (b : Descriptors) (reads : List ℕ) → ((o : ℕ) → Mem o reads → built_in o ≡ false) → Right c b → Right c (settled c b reads)
+  settled_right b reads = passes_right reads (length reads) b
 
   pub settled_ext : (b : Descriptors) (reads : List ℕ) → Ext b (settled c b reads)
   settled_ext b reads = passes_ext reads (length reads) b
 
-  -- every OID read, described or built in that has an unfolding is found with it
-  pub settled_complete : (b : Descriptors) (reads : List ℕ) → Good b → ((o : ℕ) → Mem o reads → built_in o ≡ false) →
-      ((o p : ℕ) → Mem o reads → Link c o p → (built_in p ≡ true) ⊎ (Has b p ⊎ Mem p reads)) →
-      (o : ℕ) (t : Tree) → (built_in o ≡ true) ⊎ (Has b o ⊎ Mem o reads) → Unfolds c o t → found (settled c b reads) o ≡ Some t
-  settled_complete b reads good nb closed o t near u =
+  -- every OID read or known that has an unfolding is found with it
+  pub settled_complete : (b : Descriptors) (reads : List ℕ) → Right c b → ((o : ℕ) → Mem o reads → built_in o ≡ false) →
+      ((o p : ℕ) → Mem o reads → Link c o p → Known b p ⊎ Mem p reads) →
+      (o : ℕ) (t : Tree) → Known b o ⊎ Mem o reads → Unfolds c o t → found (settled c b reads) o ≡ Some t
+  settled_complete b reads right nb closed o t near u =
       let d : Descriptors = settled c b reads in
-      let on : (p : ℕ) → (built_in p ≡ true) ⊎ (Has b p ⊎ Mem p reads) → (built_in p ≡ true) ⊎ (Has d p ⊎ Mem p reads) =
-      λ p x. ⊎_elim (λ e. inl e) (⊎_elim (λ h. inr (inl (h.0, settled_ext b reads p h.0 h.1))) (λ m. inr (inr m))) x in
-      complete d reads (settled_good b reads nb good) (settled_still b reads) (λ q p m l. on p (closed q p m l)) t o u (on o near)
+      let on : (p : ℕ) → Known b p ⊎ Mem p reads → Known d p ⊎ Mem p reads = λ p. ⊎_elim (λ k. inl (known_on p k)) (λ m. inr m) in
+      complete d reads (settled_right b reads nb right) (settled_still b reads) (λ q p m l. on p (closed q p m l)) t o u (on o near)
+    where
+      known_on : (p : ℕ) → Known b p → Known (settled c b reads) p
+      known_on p = ⊎_elim (λ y. inl y) (λ h. inr (h.0, settled_ext b reads p h.0 h.1))
 
-  pub settled_only : (b : Descriptors) (reads : List ℕ) (o : ℕ) → Has (settled c b reads) o → Mem o reads ⊎ Has b o
+  pub settled_only : (b : Descriptors) (reads : List ℕ) (o : ℕ) → Described (settled c b reads) o → Mem o reads ⊎ Described b o
   settled_only b reads o h = passes_only reads (length reads) b o h
 
 pub passes_law : PassesLaw

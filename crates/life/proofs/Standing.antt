@@ -1,13 +1,15 @@
 -- The rounds as lists. Assumes nothing.
-use Rattle.std.proofs.Common.{◌++◌, ◌⊎◌, List, [], inl, inr, nat_eq, suc, zero, ℕ, ⊎_elim}
+use Rattle.std.proofs.Common.{◌++◌, ◌⊎◌, List, [], inl, inr, nat_eq, refl, suc, zero, ℕ, ⊎_elim}
 use Rattle.std.proofs.lemmas.Bool.Decides.{Decides-eqb}
 use Rattle.catalog.specs.Catalog.{Catalog}
 use Rattle.unfolding.specs.Lists.{Distinct, Mem}
-use Rattle.unfolding.specs.Unfolding.{Link}
-use Rattle.life.specs.Rounds.{Before, Descriptors, Layer, StandsOnce, Unknown}
+use Rattle.unfolding.specs.Unfolding.{Link, itself, onward}
+use Rattle.life.specs.Rounds.{Before, Descriptors, Layer, Stands, StandsOnce, Unknown}
+use Rattle.life.specs.Steps.{LedTo}
 use Rattle.life.specs.Stops.{QueueLaw, StandingLaw, earlier, standing}
 use Rattle.life.specs.Walk.{answered, links_of}
-use Rattle.life.proofs.Fresh.{answered_not, fresh_distinct, fresh_has, has_fresh, have_links, links_have, pushed, unanswered}
+use Rattle.life.proofs.Fresh.{fresh_distinct, fresh_has, has_fresh, have_links, links_have, pushed}
+use Rattle.life.proofs.Known.{unanswered, unknown_unanswered}
 use Rattle.life.proofs.Lists.{cases_mem, distinct_append, mem_left, mem_right, mem_split}
 
 module _ (c : Catalog) (b : Descriptors) (rs : List ℕ) where
@@ -32,11 +34,11 @@ module _ (c : Catalog) (b : Descriptors) (rs : List ℕ) where
         )
 
     pub stands_layer : (k o : ℕ) → Layer c b rs k o → Mem o (layer k)
-    stands_layer zero o h = has_fresh nat_eq Decides-eqb (answered b) rs [] o h.0 (answered_not b o h.1) (λ x. x)
+    stands_layer zero o h = has_fresh nat_eq Decides-eqb (answered b) rs [] o h.0 (unknown_unanswered b o h.1) (λ x. x)
     stands_layer (suc k) o h =
         has_fresh nat_eq Decides-eqb (answered b) (links_of c (layer k)) (before k ++ layer k) o
         (have_links c (layer k) h.0.0 o (stands_layer k h.0.0 h.0.1) h.0.2)
-        (answered_not b o h.1)
+        (unknown_unanswered b o h.1)
         (λ m. ⊎_elim (λ x. h.2 (in_before k o x)) (λ x. h.3 (layer_stands k o x)) (mem_split o (before k) (layer k) m))
 
     pub in_before : (k o : ℕ) → Mem o (before k) → Before c b rs k o
@@ -53,25 +55,44 @@ module _ (c : Catalog) (b : Descriptors) (rs : List ℕ) where
   cases_before : (k o : ℕ) → Before c b rs k o ⊎ (Before c b rs k o → ⊥)
   cases_before k o = ⊎_elim (λ m. inl (in_before k o m)) (λ n. inr (λ h. n (before_in k o h))) (cases_mem o (before k))
 
-  pub stood : (k o : ℕ) → Before c b rs k o → (j : ℕ) × Layer c b rs j o
+  stood : (k o : ℕ) → Before c b rs k o → StandsOnce c b rs o
   stood zero o h = absurd h
   stood (suc k) o (inl h) = stood k o h
-  stood (suc k) o (inr h) = (k, h)
+  stood (suc k) o (inr h) = (suc k, h)
 
   pub earlier_stands : (k o : ℕ) → Mem o (before k) → StandsOnce c b rs o
-  earlier_stands k o m = let s = stood k o (in_before k o m) in (suc s.0, s.1)
+  earlier_stands k o m = stood k o (in_before k o m)
 
   -- a link of what stands, itself unknown, stands in some round
-  pub link_stands : (k p o : ℕ) → Layer c b rs k p → Link c p o → Unknown b o → (j : ℕ) × Layer c b rs j o
-  link_stands k p o h l u =
-      ⊎_elim
-      (λ x. stood k o x)
-      (λ nb. ⊎_elim (λ x. (k, x)) (λ nl. (suc k, ((p, h, l), u, nb, nl))) (cases_layer k o))
-      (cases_before k o)
+  pub link_stands : (p o : ℕ) → StandsOnce c b rs p → Link c p o → Unknown b o → StandsOnce c b rs o
+  link_stands p o s l u = go s.0 s.1
+    where
+      go : (k : ℕ) → Stands c b rs k p → StandsOnce c b rs o
+      go zero h = absurd h
+      go (suc k) h =
+          ⊎_elim
+          (stood k o)
+          (λ nb. ⊎_elim (λ x. (suc k, x)) (λ nl. (suc (suc k), ((p, h, l), u, nb, nl))) (cases_layer k o))
+          (cases_before k o)
 
-  pub layer_unknown : (k o : ℕ) → Layer c b rs k o → Unknown b o
-  layer_unknown zero o h = h.1
-  layer_unknown (suc k) o h = h.1
+  -- what stands is unknown, and was led to
+  pub stands_unknown : (o : ℕ) → StandsOnce c b rs o → Unknown b o
+  stands_unknown o s = go s.0 s.1
+    where
+      go : (k : ℕ) → Stands c b rs k o → Unknown b o
+      go zero h = absurd h
+      go (suc zero) h = h.1
+      go (suc (suc k)) h = h.1
+
+  pub stands_led : (o : ℕ) → StandsOnce c b rs o → LedTo c rs o
+  stands_led o s = go s.0 o s.1
+    where
+      go : (k o : ℕ) → Stands c b rs k o → LedTo c rs o
+      go zero o h = absurd h
+      go (suc zero) o h = (o, h.0, itself refl)
+      go (suc (suc k)) o h =
+          let up = go (suc k) h.0.0 h.0.1 in
+          (up.0, up.1, onward h.0.0 up.2 (stands_unknown h.0.0 (suc k, h.0.1)).0 h.0.2)
 
   layer_distinct : (k : ℕ) → Distinct (layer k)
   layer_distinct zero = fresh_distinct nat_eq Decides-eqb (answered b) rs []

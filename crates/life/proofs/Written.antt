@@ -6,11 +6,11 @@ use Rattle.catalog.specs.Shape.{Name}
 use Rattle.unfolding.specs.Unfolding.{Unfolds}
 use Rattle.unfolding.proofs.Unfolding.{unique}
 use Rattle.life.specs.Keep.{both, source}
-use Rattle.life.specs.Settle.{found}
+use Rattle.life.specs.Rounds.{found}
 use Rattle.life.specs.Written.{ExpressionLaw, Origin, OriginLaw, TypesLaw, declared_as, expression, origin_at, origin_found, settled_as, table, unknown, write_type}
-use Rattle.life.proofs.Life.{alive}
+use Rattle.life.proofs.Known.{found_right, found_tells}
+use Rattle.life.proofs.Life.{fit}
 use Rattle.life.proofs.Lists.{is_some_if, split_option}
-use Rattle.life.proofs.Settle.{found_good, found_tells}
 use Rattle.life.proofs.Tells.{source_is}
 
 table_found : (x : Option CatalogColumn) (t n : Name) → origin_found x ≡ table t n → (k : CatalogColumn) × (x ≡ Some k) × (k.table ≡ t) × (k.column ≡ n)
@@ -59,16 +59,16 @@ expression_law b f = (from f.relation f.attribute, to f.relation f.attribute)
 
 pub types_law : TypesLaw
 types_law h c b l o t =
-    let right = (alive h c b l).sound.right in (
+    let right = (fit h c b l).sound.right in (
       λ e.
           ⊎_elim
           (λ v. let f : declared_as o ≡ settled_as o t = sym (ap (write_type o) v) ∙ e in absurd cc)
           (λ v.
           let f : settled_as o v.0 ≡ settled_as o t = sym (ap (write_type o) v.1) ∙ e in
           let z : v.0 ≡ t = cc in
-          ((found_tells b.descriptors o).0 (ap is_some v.1), subst (Unfolds c o) z (found_good c b.descriptors right o v.0 v.1)))
+          ((found_tells b.descriptors o).0 (ap is_some v.1), subst (Unfolds c o) z (found_right c b.descriptors right o v.0 v.1)))
           (split_option (found b.descriptors o)),
       λ x.
           let v = is_some_if (found b.descriptors o) ((found_tells b.descriptors o).1 x.0) in
-          ap (write_type o) v.1 ∙ ap (settled_as o) (unique c o v.0 t (found_good c b.descriptors right o v.0 v.1) x.1),
+          ap (write_type o) v.1 ∙ ap (settled_as o) (unique c o v.0 t (found_right c b.descriptors right o v.0 v.1) x.1),
     )

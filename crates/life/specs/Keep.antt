@@ -11,8 +11,8 @@ use Rattle.unfolding.specs.Unfolding.{Tree, built, node}
 use Rattle.life.specs.Calls.{Call, Declared, Field, array_link, array_of, bind, describe, fill, of_name, of_oid, requests, resolve}
 use Rattle.life.specs.Life.{Lived}
 use Rattle.life.specs.Lists.{is_in}
-use Rattle.life.specs.Rounds.{Descriptors, StandsOnce}
-use Rattle.life.specs.Settle.{found, settled}
+use Rattle.life.specs.Rounds.{Descriptors, StandsOnce, found}
+use Rattle.life.specs.Settle.{settled}
 use Rattle.life.specs.Steps.{Book, Ending, Event, LastOfCall, TellsTypeRounds, accepts, keeps_finds, rounds_told}
 
 abbrev pub if_named : Name → ℕ → Tree → Option ℕ

@@ -5,8 +5,7 @@ use Rattle.catalog.specs.Catalog.{Catalog, CatalogRow}
 use Rattle.unfolding.specs.Lists.{Mem}
 use Rattle.unfolding.specs.Unfolding.{HasUnfolding}
 use Rattle.life.specs.Lists.{FirstAt}
-use Rattle.life.specs.Rounds.{Descriptors}
-use Rattle.life.specs.Settle.{found}
+use Rattle.life.specs.Rounds.{Descriptors, found}
 use Rattle.life.specs.Steps.{Book, Ending, accepted, refused}
 use Rattle.life.specs.Walk.{Walked, ended, stopped}
 

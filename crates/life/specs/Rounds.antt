@@ -1,21 +1,27 @@
 -- What stands in which round of a step.
 -- Assumes nothing.
-use Rattle.std.specs.Prelude.{◌≡◌, ◌≤◌, ◌⊎◌, List, None, Option, Some, false, suc, true, zero, ℕ}
+use Rattle.std.specs.Prelude.{◌≡◌, ◌≤◌, ◌⊎◌, List, None, Option, Some, false, if◌then◌else◌, suc, true, zero, ℕ}
 use Rattle.catalog.specs.Catalog.{Catalog}
 use Rattle.unfolding.specs.Lists.{Mem}
-use Rattle.unfolding.specs.Unfolding.{Link, Tree, built_in}
+use Rattle.unfolding.specs.Unfolding.{Link, Tree, built, built_in}
 
 -- what a book describes
 abbrev pub Descriptors : Type 0
 Descriptors = ℕ → Option Tree
 
--- neither built in nor described
+abbrev pub Described : Descriptors → ℕ → Type 0
+Described b o = (t : Tree) × (b o ≡ Some t)
+
+-- built in or described, and neither
+abbrev pub Known : Descriptors → ℕ → Type 0
+Known b o = (built_in o ≡ true) ⊎ Described b o
+
 abbrev pub Unknown : Descriptors → ℕ → Type 0
 Unknown b o = (built_in o ≡ false) × (b o ≡ None)
 
--- built in or described
-abbrev pub Known : Descriptors → ℕ → Type 0
-Known b o = (built_in o ≡ true) ⊎ ((t : Tree) × (b o ≡ Some t))
+-- what is found of an OID: itself where it is built in, or its descriptor
+abbrev pub found : Descriptors → ℕ → Option Tree
+found b o = if built_in o then Some (built o) else b o
 
 -- in a step over this catalog that meets these descriptors and has the requests rs
 module _ (c : Catalog) (b : Descriptors) (rs : List ℕ) where

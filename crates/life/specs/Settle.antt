@@ -4,8 +4,8 @@ use Rattle.std.specs.Prelude.{◌==◌, ◌∷◌, ◌≡◌, List, None, Option
 use Rattle.catalog.specs.Catalog.{Catalog}
 use Rattle.catalog.specs.Shape.{Shape, formed}
 use Rattle.unfolding.specs.Lists.{Mem}
-use Rattle.unfolding.specs.Unfolding.{Tree, Trees, built, built_in, more, node, none}
-use Rattle.life.specs.Rounds.{Descriptors}
+use Rattle.unfolding.specs.Unfolding.{Tree, Trees, more, node, none}
+use Rattle.life.specs.Rounds.{Descriptors, found}
 
 abbrev pub put : Descriptors → ℕ → Tree → Descriptors
 put b o t p = if p == o then Some t else b p
@@ -13,10 +13,6 @@ put b o t p = if p == o then Some t else b p
 abbrev pub put_if : Descriptors → ℕ → Option Tree → Descriptors
 put_if b o None = b
 put_if b o (Some t) = put b o t
-
--- what is found of an OID: itself where it is built in, or its descriptor
-abbrev pub found : Descriptors → ℕ → Option Tree
-found b o = if built_in o then Some (built o) else b o
 
 abbrev pub joined : Option Tree → Option Trees → Option Trees
 joined None us = None

@@ -1,12 +1,12 @@
 -- A book, how a step ends, and what a step does to the book and the catalog.
 -- Assumes nothing.
-use Rattle.std.specs.Prelude.{◌&&◌, ◌+◌, ◌==◌, ◌||◌, ◌↔◌, ◌∷◌, ◌≡◌, ◌⊎◌, Bool, List, None, Option, Some, [], false, if◌then◌else◌, true, ℕ, ℤ}
+use Rattle.std.specs.Prelude.{◌&&◌, ◌+◌, ◌==◌, ◌||◌, ◌↔◌, ◌∷◌, ◌≡◌, ◌⊎◌, Bool, List, None, Option, Some, [], false, true, ℕ, ℤ}
 use Rattle.catalog.specs.Catalog.{Catalog, CatalogColumn, Grows, Laws}
 use Rattle.catalog.specs.Shape.{Head, Name}
 use Rattle.unfolding.specs.Lists.{Mem}
-use Rattle.unfolding.specs.Unfolding.{Leads, Tree, Trees, Unfolds, built, built_in, node}
+use Rattle.unfolding.specs.Unfolding.{Leads, Tree, Trees, Unfolds, built_in, node}
 use Rattle.life.specs.Calls.{AsksColumn, Call, Declared, Declares, DeclaresArray, array_link, array_of, bind, describe, fill, of_name, of_oid, requests, resolve}
-use Rattle.life.specs.Rounds.{Descriptors, Known, LastRound, StandsOnce}
+use Rattle.life.specs.Rounds.{Descriptors, Known, LastRound, StandsOnce, found}
 
 pub record Book : Type 0 where
   pub descriptors : Descriptors
@@ -19,7 +19,7 @@ empty_book = record { descriptors = λ _. None; names = λ _. None; arrays = λ 
 
 -- what Describe answers
 abbrev pub answer : Book → ℕ → Option Tree
-answer b o = if built_in o then Some (built o) else b.descriptors o
+answer b o = found b.descriptors o
 
 -- o is described, and n is its pretty name
 abbrev pub PrettyName : Book → Name → ℕ → Type 0

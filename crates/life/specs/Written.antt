@@ -9,8 +9,7 @@ use Rattle.life.specs.Calls.{Binding, Field}
 use Rattle.life.specs.Keep.{source}
 use Rattle.life.specs.Life.{Lived}
 use Rattle.life.specs.Outcomes.{Outcome}
-use Rattle.life.specs.Rounds.{Known}
-use Rattle.life.specs.Settle.{found}
+use Rattle.life.specs.Rounds.{Known, found}
 use Rattle.life.specs.Steps.{Book, Event, accepts}
 
 -- a type: its OID, settled or as declared
