@@ -6,6 +6,7 @@ use Rattle.catalog.specs.Catalog.{Each}
 use Rattle.unfolding.specs.Lists.{Mem}
 use Rattle.life.specs.Stops.{StopsAt}
 use Rattle.life.specs.Walk.{Asked, all_read, ask_each, stop}
+use Rattle.life.proofs.Lists.{chosen_false, chosen_true}
 
 pub split_asked : (a : Asked) → ((l : ℕ) × (a ≡ all_read l)) ⊎ ((n p : ℕ) × (a ≡ stop n p))
 split_asked (all_read l) = inl (l, refl)
@@ -18,10 +19,10 @@ each_mem P (y ∷ xs) e x (inr m) = each_mem P xs e.1 x m
 
 module _ {Q : Type 0} (oid : Q → ℕ) (bad : Q → Bool) where
   asked_bad : (left : ℕ) (q : Q) (qs : List Q) → bad q ≡ true → ask_each oid bad (suc left) (q ∷ qs) ≡ stop 6 (oid q)
-  asked_bad left q qs e = ap (λ (x : Bool). elim x as (λ _. Asked) [ true ↦ stop 6 (oid q) | false ↦ ask_each oid bad left qs ]) e
+  asked_bad left q qs = chosen_true (bad q) _ _
 
   asked_good : (left : ℕ) (q : Q) (qs : List Q) → bad q ≡ false → ask_each oid bad (suc left) (q ∷ qs) ≡ ask_each oid bad left qs
-  asked_good left q qs e = ap (λ (x : Bool). elim x as (λ _. Asked) [ true ↦ stop 6 (oid q) | false ↦ ask_each oid bad left qs ]) e
+  asked_good left q qs = chosen_false (bad q) _ _
 
   -- a round that stops does so at its first offence
   pub ask_stops : (left : ℕ) (qs : List Q) (n p : ℕ) → ask_each oid bad left qs ≡ stop n p → StopsAt oid bad left qs n p

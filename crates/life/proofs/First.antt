@@ -18,7 +18,7 @@ use Rattle.life.specs.Walk.{Walked, and_then, answered, ask_each, ended, links_o
 use Rattle.life.proofs.Asking.{ask_reads, ask_stops, split_asked}
 use Rattle.life.proofs.Ends.{shows}
 use Rattle.life.proofs.Life.{agrees}
-use Rattle.life.proofs.Lists.{is_none_if, mem_left, mem_right, mem_split, none_not_some, not_both}
+use Rattle.life.proofs.Lists.{chosen_false, chosen_true, is_none_if, mem_left, mem_right, mem_split, none_not_some, not_both}
 use Rattle.life.proofs.Questions.{all_distinct, alone_apart, each_sane, element_read, mem_alone, mem_full, parts_length, round_full}
 use Rattle.life.proofs.Standing.{earlier_stands, layer_stands, stands_layer}
 use Rattle.life.proofs.Walk.{Ended, Result, ended_counts, ended_reads, last_once, walked}
@@ -137,14 +137,15 @@ module _ (c : Catalog) (b : Book) (agree : Agrees c b) where
 
     pub resolve_come : Come (resolve_walk c b ds)
     resolve_come =
+        let asks : Bool = list_any (asks_name c b) ds || any_question qs in
         ⊎_elim
         (λ t.
-        subst (λ (x : Bool). Come (elim x as (λ _. Walked) [ true ↦ first_opened c b c.allowance qs | false ↦ ended 0 [] ])) (sym t) (opened c.allowance refl (any_first t)))
+        subst Come (sym (chosen_true asks (first_opened c b c.allowance qs) (ended 0 []) t)) (opened c.allowance refl (any_first t)))
         (λ t.
         let h = or_parts (list_any (asks_name c b) ds) (any_question qs) t in
         let z = no_question qs h.1 in
         let few : length (for_arrays_alone qs) ≡ 0 = ap (λ l. length (for_arrays_alone l)) z in
-        subst (λ (x : Bool). Come (elim x as (λ _. Walked) [ true ↦ first_opened c b c.allowance qs | false ↦ ended 0 [] ])) (sym t) (
+        subst Come (sym (chosen_false asks (first_opened c b c.allowance qs) (ended 0 []) t)) (
           (
             record {
               over = sym (round_full c b agree ds) ∙ ap asked_in_full z;

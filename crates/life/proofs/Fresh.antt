@@ -9,14 +9,14 @@ use Rattle.unfolding.specs.Lists.{Distinct, Mem}
 use Rattle.unfolding.specs.Unfolding.{Link}
 use Rattle.life.specs.Lists.{fresh_by, push_all}
 use Rattle.life.specs.Walk.{links_in, links_of}
-use Rattle.life.proofs.Lists.{mem_left, mem_right, mem_split, mem_tells, not_both, split_option}
+use Rattle.life.proofs.Lists.{chosen_false, chosen_true, mem_left, mem_right, mem_split, mem_tells, not_both, split_option}
 
 module _ {A : Type 0} (same : A → A → Bool) (tells : (x y : A) → Decides (same x y) (x ≡ y)) (skip : A → Bool) where
   passes : (seen : List A) (x : A) (xs : List A) → (skip x || list_any (same x) seen) ≡ true → fresh_by same skip seen (x ∷ xs) ≡ fresh_by same skip seen xs
-  passes seen x xs e = ap (λ (t : Bool). elim t as (λ _. List A) [ true ↦ fresh_by same skip seen xs | false ↦ x ∷ fresh_by same skip (x ∷ seen) xs ]) e
+  passes seen x xs = chosen_true (skip x || list_any (same x) seen) _ _
 
   takes : (seen : List A) (x : A) (xs : List A) → (skip x || list_any (same x) seen) ≡ false → fresh_by same skip seen (x ∷ xs) ≡ x ∷ fresh_by same skip (x ∷ seen) xs
-  takes seen x xs e = ap (λ (t : Bool). elim t as (λ _. List A) [ true ↦ fresh_by same skip seen xs | false ↦ x ∷ fresh_by same skip (x ∷ seen) xs ]) e
+  takes seen x xs = chosen_false (skip x || list_any (same x) seen) _ _
 
   pub fresh_has : (xs seen : List A) (p : A) → Mem p (fresh_by same skip seen xs) → Mem p xs × (skip p ≡ false) × (Mem p seen → ⊥)
   fresh_has [] seen p m = absurd m
@@ -94,11 +94,11 @@ module _ {A : Type 0} (same : A → A → Bool) (tells : (x y : A) → Decides (
   pushed (x ∷ xs) queue =
       ⊎_elim
       (λ t.
-      ap (λ q. push_all same skip q xs) (ap (λ (v : Bool). elim v as (λ _. List A) [ true ↦ queue | false ↦ queue ++ x ∷ [] ]) t)
+      ap (λ q. push_all same skip q xs) (chosen_true (skip x || list_any (same x) queue) queue (queue ++ x ∷ []) t)
       ∙ pushed xs queue
       ∙ ap (λ l. queue ++ l) (sym (passes queue x xs t)))
       (λ f.
-      ap (λ q. push_all same skip q xs) (ap (λ (v : Bool). elim v as (λ _. List A) [ true ↦ queue | false ↦ queue ++ x ∷ [] ]) f)
+      ap (λ q. push_all same skip q xs) (chosen_false (skip x || list_any (same x) queue) queue (queue ++ x ∷ []) f)
       ∙ pushed xs (queue ++ x ∷ [])
       ∙ append_assoc queue (x ∷ []) (fresh_by same skip (queue ++ x ∷ []) xs)
       ∙ ap (λ l. queue ++ x ∷ l) (fresh_same xs (queue ++ x ∷ []) (x ∷ queue) (λ p. mem_push x p queue))

@@ -32,6 +32,13 @@ is_some_if (Some a) e = (a, refl)
 pub none_not_some : {A : Type 0} (x : Option A) → x ≡ None → is_some x ≡ false
 none_not_some x e = ap is_some e
 
+-- a choice made
+pub chosen_true : {A : Type 0} (t : Bool) (x y : A) → t ≡ true → (elim t as (λ _. A) [ true ↦ x | false ↦ y ]) ≡ x
+chosen_true t x y e = ap (λ (v : Bool). elim v as (λ _. _) [ true ↦ x | false ↦ y ]) e
+
+pub chosen_false : {A : Type 0} (t : Bool) (x y : A) → t ≡ false → (elim t as (λ _. A) [ true ↦ x | false ↦ y ]) ≡ y
+chosen_false t x y e = ap (λ (v : Bool). elim v as (λ _. _) [ true ↦ x | false ↦ y ]) e
+
 pub never : Decides false ⊥
 never = (λ e. absurd cc, λ x. absurd x)
 
@@ -86,10 +93,10 @@ module _ {A : Type 0} (test : A → Bool) (P : A → Type 0) where
   Agree xs = (x : A) → Mem x xs → (test x ≡ true) ↔ P x
 
   pub place_yes : (i : ℕ) (x : A) (xs : List A) → test x ≡ true → first_place test i (x ∷ xs) ≡ Some i
-  place_yes i x xs e = ap (λ (v : Bool). elim v as (λ _. Option ℕ) [ true ↦ Some i | false ↦ first_place test (suc i) xs ]) e
+  place_yes i x xs = chosen_true (test x) _ _
 
   pub place_no : (i : ℕ) (x : A) (xs : List A) → test x ≡ false → first_place test i (x ∷ xs) ≡ first_place test (suc i) xs
-  place_no i x xs e = ap (λ (v : Bool). elim v as (λ _. Option ℕ) [ true ↦ Some i | false ↦ first_place test (suc i) xs ]) e
+  place_no i x xs = chosen_false (test x) _ _
 
   pub place_first : (xs : List A) → Agree xs → (i j : ℕ) → (first_place test i xs ≡ Some j) ↔ FirstAt P i xs j
   place_first [] g i j = (λ e. not_some_none j e refl, λ x. absurd x)

@@ -11,109 +11,127 @@ use Rattle.life.specs.RoundOne.{Question, all_asks, asked_in_full, asked_oid, as
 use Rattle.life.specs.Steps.{Book}
 use Rattle.life.specs.Walk.{Asked, answered, ask_each, malformed, stop}
 use Rattle.life.proofs.Fresh.{mem_push}
+use Rattle.life.proofs.Lists.{chosen_false, chosen_true}
 
 module _ (c : Catalog) (b : Book) where
   abbrev skip : ℕ → Bool
   skip = answered b.descriptors
 
-  abbrev spares : ℕ → Bool
-  spares = spared c b
-
   abbrev once : List ℕ → List ℕ → List Question → List Question
   once seen apart qs = asked_once c b seen apart qs
 
   full_passes : (seen apart : List ℕ) (o : ℕ) (qs : List Question) → (skip o || is_in o seen) ≡ true → once seen apart (in_full o ∷ qs) ≡ once seen apart qs
-  full_passes seen apart o qs e = ap (λ (x : Bool). elim x as (λ _. List Question) [ true ↦ once seen apart qs | false ↦ in_full o ∷ once (o ∷ seen) apart qs ]) e
+  full_passes seen apart o qs = chosen_true (skip o || is_in o seen) _ _
 
-  full_takes : (seen apart : List ℕ) (o : ℕ) (qs : List Question) → (skip o || is_in o seen) ≡ false → once seen apart (in_full o ∷ qs) ≡ in_full o ∷ once (o ∷ seen) apart qs
-  full_takes seen apart o qs e = ap (λ (x : Bool). elim x as (λ _. List Question) [ true ↦ once seen apart qs | false ↦ in_full o ∷ once (o ∷ seen) apart qs ]) e
+  full_takes : (seen apart : List ℕ) (o : ℕ) (qs : List Question) → (skip o || is_in o seen) ≡ false →
+      once seen apart (in_full o ∷ qs) ≡ in_full o ∷ once (o ∷ seen) apart qs
+  full_takes seen apart o qs = chosen_false (skip o || is_in o seen) _ _
 
-  apart_passes : (seen apart : List ℕ) (o : ℕ) (qs : List Question) → (spares o || is_in o apart) ≡ true → once seen apart (for_array o ∷ qs) ≡ once seen apart qs
-  apart_passes seen apart o qs e = ap (λ (x : Bool). elim x as (λ _. List Question) [ true ↦ once seen apart qs | false ↦ for_array o ∷ once seen (o ∷ apart) qs ]) e
+  alone_passes : (seen apart : List ℕ) (e : ℕ) (qs : List Question) → (spared c b e || is_in e apart) ≡ true →
+      once seen apart (for_array e ∷ qs) ≡ once seen apart qs
+  alone_passes seen apart e qs = chosen_true (spared c b e || is_in e apart) _ _
 
-  apart_takes : (seen apart : List ℕ) (o : ℕ) (qs : List Question) → (spares o || is_in o apart) ≡ false → once seen apart (for_array o ∷ qs) ≡ for_array o ∷ once seen (o ∷ apart) qs
-  apart_takes seen apart o qs e = ap (λ (x : Bool). elim x as (λ _. List Question) [ true ↦ once seen apart qs | false ↦ for_array o ∷ once seen (o ∷ apart) qs ]) e
+  alone_takes : (seen apart : List ℕ) (e : ℕ) (qs : List Question) → (spared c b e || is_in e apart) ≡ false →
+      once seen apart (for_array e ∷ qs) ≡ for_array e ∷ once seen (e ∷ apart) qs
+  alone_takes seen apart e qs = chosen_false (spared c b e || is_in e apart) _ _
 
   -- only what is in the lists of those seen counts
-  once_same : (qs : List Question) (seen seen' apart apart' : List ℕ) → ((o : ℕ) → is_in o seen ≡ is_in o seen') → ((o : ℕ) → is_in o apart ≡ is_in o apart') → once seen apart qs ≡ once seen' apart' qs
+  once_same : (qs : List Question) (seen seen' apart apart' : List ℕ) →
+      ((o : ℕ) → is_in o seen ≡ is_in o seen') → ((o : ℕ) → is_in o apart ≡ is_in o apart') → once seen apart qs ≡ once seen' apart' qs
   once_same [] seen seen' apart apart' e f = refl
   once_same (in_full o ∷ qs) seen seen' apart apart' e f =
+      let test : (skip o || is_in o seen) ≡ (skip o || is_in o seen') = ap (λ x. skip o || x) (e o) in
       ⊎_elim
-      (λ t. full_passes seen apart o qs t ∙ once_same qs seen seen' apart apart' e f ∙ sym (full_passes seen' apart' o qs (sym (ap (λ x. skip o || x) (e o)) ∙ t)))
+      (λ t. full_passes seen apart o qs t ∙ once_same qs seen seen' apart apart' e f ∙ sym (full_passes seen' apart' o qs (sym test ∙ t)))
       (λ t.
       full_takes seen apart o qs t
       ∙ ap (λ l. in_full o ∷ l) (once_same qs (o ∷ seen) (o ∷ seen') apart apart' (λ p. ap (λ x. nat_eq p o || x) (e p)) f)
-      ∙ sym (full_takes seen' apart' o qs (sym (ap (λ x. skip o || x) (e o)) ∙ t)))
+      ∙ sym (full_takes seen' apart' o qs (sym test ∙ t)))
       (cases_Bool (skip o || is_in o seen))
   once_same (for_array o ∷ qs) seen seen' apart apart' e f =
+      let test : (spared c b o || is_in o apart) ≡ (spared c b o || is_in o apart') = ap (λ x. spared c b o || x) (f o) in
       ⊎_elim
-      (λ t. apart_passes seen apart o qs t ∙ once_same qs seen seen' apart apart' e f ∙ sym (apart_passes seen' apart' o qs (sym (ap (λ x. spares o || x) (f o)) ∙ t)))
+      (λ t. alone_passes seen apart o qs t ∙ once_same qs seen seen' apart apart' e f ∙ sym (alone_passes seen' apart' o qs (sym test ∙ t)))
       (λ t.
-      apart_takes seen apart o qs t
+      alone_takes seen apart o qs t
       ∙ ap (λ l. for_array o ∷ l) (once_same qs seen seen' (o ∷ apart) (o ∷ apart') e (λ p. ap (λ x. nat_eq p o || x) (f p)))
-      ∙ sym (apart_takes seen' apart' o qs (sym (ap (λ x. spares o || x) (f o)) ∙ t)))
-      (cases_Bool (spares o || is_in o apart))
+      ∙ sym (alone_takes seen' apart' o qs (sym test ∙ t)))
+      (cases_Bool (spared c b o || is_in o apart))
 
-  abbrev sum : ℕ → List ℕ → List ℕ → List Question → Read
-  sum left queue apart l = summed (ask_each asked_oid (refusable c) left l) (queue ++ asked_in_full l) (apart ++ for_arrays_alone l)
+  abbrev asked : ℕ → List Question → Asked
+  asked left qs = ask_each asked_oid (refusable c) left qs
+
+  -- what the lists come to behind a queue and those read apart
+  abbrev sums : ℕ → List ℕ → List ℕ → List Question → Read
+  sums left queue apart l = summed (asked left l) (queue ++ asked_in_full l) (apart ++ for_arrays_alone l)
 
   -- one row more, and then the rest
-  sum_full : (o left : ℕ) (queue apart : List ℕ) (l : List Question) → sum left queue apart (in_full o ∷ l) ≡ read_row o left (malformed c o) (λ rest. sum rest (queue ++ o ∷ []) apart l)
-  sum_full o zero queue apart l = refl
-  sum_full o (suc left) queue apart l =
+  sums_row : (q : Question) (left : ℕ) (queue apart queue' apart' : List ℕ) (l : List Question) →
+      queue ++ asked_in_full (q ∷ l) ≡ queue' ++ asked_in_full l → apart ++ for_arrays_alone (q ∷ l) ≡ apart' ++ for_arrays_alone l →
+      sums left queue apart (q ∷ l) ≡ read_row (asked_oid q) left (refusable c q) (λ rest. sums rest queue' apart' l)
+  sums_row q zero queue apart queue' apart' l e f = refl
+  sums_row q (suc left) queue apart queue' apart' l e f =
+      let full : List ℕ = queue ++ asked_in_full (q ∷ l) in
+      let alone : List ℕ = apart ++ for_arrays_alone (q ∷ l) in
       ⊎_elim
-      (λ t. ap (λ (x : Bool). summed (elim x as (λ _. Asked) [ true ↦ stop 6 o | false ↦ ask_each asked_oid (refusable c) left l ]) (queue ++ o ∷ asked_in_full l) (apart ++ for_arrays_alone l)) t ∙ sym (ap (λ (x : Bool). elim x as (λ _. Read) [ true ↦ halted 6 o | false ↦ sum left (queue ++ o ∷ []) apart l ]) t))
+      (λ t. ap (λ a. summed a full alone) (chosen_true (refusable c q) _ _ t) ∙ sym (chosen_true (refusable c q) _ (sums left queue' apart' l) t))
       (λ t.
-      ap (λ (x : Bool). summed (elim x as (λ _. Asked) [ true ↦ stop 6 o | false ↦ ask_each asked_oid (refusable c) left l ]) (queue ++ o ∷ asked_in_full l) (apart ++ for_arrays_alone l)) t
-      ∙ ap (λ u. summed (ask_each asked_oid (refusable c) left l) u (apart ++ for_arrays_alone l)) (sym (append_assoc queue (o ∷ []) (asked_in_full l)))
-      ∙ sym (ap (λ (x : Bool). elim x as (λ _. Read) [ true ↦ halted 6 o | false ↦ sum left (queue ++ o ∷ []) apart l ]) t))
-      (cases_Bool (malformed c o))
-
-  sum_apart : (o left : ℕ) (queue apart : List ℕ) (l : List Question) → sum left queue apart (for_array o ∷ l) ≡ read_row o left (miscoded (c.rows o)) (λ rest. sum rest queue (apart ++ o ∷ []) l)
-  sum_apart o zero queue apart l = refl
-  sum_apart o (suc left) queue apart l =
-      ⊎_elim
-      (λ t. ap (λ (x : Bool). summed (elim x as (λ _. Asked) [ true ↦ stop 6 o | false ↦ ask_each asked_oid (refusable c) left l ]) (queue ++ asked_in_full l) (apart ++ o ∷ for_arrays_alone l)) t ∙ sym (ap (λ (x : Bool). elim x as (λ _. Read) [ true ↦ halted 6 o | false ↦ sum left queue (apart ++ o ∷ []) l ]) t))
-      (λ t.
-      ap (λ (x : Bool). summed (elim x as (λ _. Asked) [ true ↦ stop 6 o | false ↦ ask_each asked_oid (refusable c) left l ]) (queue ++ asked_in_full l) (apart ++ o ∷ for_arrays_alone l)) t
-      ∙ ap (λ u. summed (ask_each asked_oid (refusable c) left l) (queue ++ asked_in_full l) u) (sym (append_assoc apart (o ∷ []) (for_arrays_alone l)))
-      ∙ sym (ap (λ (x : Bool). elim x as (λ _. Read) [ true ↦ halted 6 o | false ↦ sum left queue (apart ++ o ∷ []) l ]) t))
-      (cases_Bool (miscoded (c.rows o)))
+      ap (λ a. summed a full alone) (chosen_false (refusable c q) (stop 6 (asked_oid q)) (asked left l) t)
+      ∙ (λ i. summed (asked left l) (e i) (f i))
+      ∙ sym (chosen_false (refusable c q) (halted 6 (asked_oid q)) _ t))
+      (cases_Bool (refusable c q))
 
   -- a row, and then what is done with what is left
-  row_then : (o left : ℕ) (bad : Bool) (f : ℕ → Read) (next : List ℕ → List ℕ → ℕ → Read) (g : ℕ → Read) → ((rest : ℕ) → then_read (f rest) next ≡ g rest) → then_read (read_row o left bad f) next ≡ read_row o left bad g
+  row_then : (o left : ℕ) (bad : Bool) (f : ℕ → Read) (next : List ℕ → List ℕ → ℕ → Read) (g : ℕ → Read) →
+      ((rest : ℕ) → then_read (f rest) next ≡ g rest) → then_read (read_row o left bad f) next ≡ read_row o left bad g
   row_then o zero bad f next g e = refl
   row_then o (suc left) true f next g e = refl
   row_then o (suc left) false f next g e = e left
 
-  all_read_so : (qs : List Question) (queue apart : List ℕ) (left : ℕ) → read_all c b qs queue apart left ≡ sum left queue apart (once queue apart qs)
+  all_read_so : (qs : List Question) (queue apart : List ℕ) (left : ℕ) → read_all c b qs queue apart left ≡ sums left queue apart (once queue apart qs)
   all_read_so [] queue apart left = λ i. reading (sym (append-nil queue) i) (sym (append-nil apart) i) left
   all_read_so (in_full o ∷ qs) queue apart left =
+      let test : Bool = skip o || is_in o queue in
+      let row : (ℕ → Read) → Read = read_row o left (malformed c o) in
+      let one : ℕ → Read = λ rest. reading (queue ++ o ∷ []) apart rest in
+      let then_all : Read → Read = λ r. then_read r (read_all c b qs) in
       ⊎_elim
       (λ t.
-      ap (λ (x : Bool). then_read (elim x as (λ _. Read) [ true ↦ reading queue apart left | false ↦ read_row o left (malformed c o) (λ rest. reading (queue ++ o ∷ []) apart rest) ]) (read_all c b qs)) t
+      ap then_all (chosen_true test (reading queue apart left) (row one) t)
       ∙ all_read_so qs queue apart left
-      ∙ ap (sum left queue apart) (sym (full_passes queue apart o qs t)))
+      ∙ ap (sums left queue apart) (sym (full_passes queue apart o qs t)))
       (λ t.
-      ap (λ (x : Bool). then_read (elim x as (λ _. Read) [ true ↦ reading queue apart left | false ↦ read_row o left (malformed c o) (λ rest. reading (queue ++ o ∷ []) apart rest) ]) (read_all c b qs)) t
-      ∙ row_then o left (malformed c o) (λ rest. reading (queue ++ o ∷ []) apart rest) (read_all c b qs) (λ rest. sum rest (queue ++ o ∷ []) apart (once (o ∷ queue) apart qs))
-      (λ rest. all_read_so qs (queue ++ o ∷ []) apart rest ∙ ap (sum rest (queue ++ o ∷ []) apart) (once_same qs (queue ++ o ∷ []) (o ∷ queue) apart apart (λ p. mem_push nat_eq Decides-eqb skip o p queue) (λ p. refl)))
-      ∙ sym (sum_full o left queue apart (once (o ∷ queue) apart qs))
-      ∙ ap (sum left queue apart) (sym (full_takes queue apart o qs t)))
+      ap then_all (chosen_false test (reading queue apart left) (row one) t)
+      ∙ row_then o left (malformed c o) one (read_all c b qs) (λ rest. sums rest (queue ++ o ∷ []) apart (once (o ∷ queue) apart qs))
+      (λ rest.
+      all_read_so qs (queue ++ o ∷ []) apart rest
+      ∙ ap (sums rest (queue ++ o ∷ []) apart)
+      (once_same qs (queue ++ o ∷ []) (o ∷ queue) apart apart (λ p. mem_push nat_eq Decides-eqb skip o p queue) (λ p. refl)))
+      ∙ sym
+      (sums_row (in_full o) left queue apart (queue ++ o ∷ []) apart (once (o ∷ queue) apart qs) (sym (append_assoc queue (o ∷ []) (asked_in_full (once (o ∷ queue) apart qs)))) refl)
+      ∙ ap (sums left queue apart) (sym (full_takes queue apart o qs t)))
       (cases_Bool (skip o || is_in o queue))
-  all_read_so (for_array o ∷ qs) queue apart left =
+  all_read_so (for_array e ∷ qs) queue apart left =
+      let test : Bool = spared c b e || is_in e apart in
+      let row : (ℕ → Read) → Read = read_row e left (miscoded (c.rows e)) in
+      let one : ℕ → Read = λ rest. reading queue (apart ++ e ∷ []) rest in
+      let then_all : Read → Read = λ r. then_read r (read_all c b qs) in
       ⊎_elim
       (λ t.
-      ap (λ (x : Bool). then_read (elim x as (λ _. Read) [ true ↦ reading queue apart left | false ↦ read_row o left (miscoded (c.rows o)) (λ rest. reading queue (apart ++ o ∷ []) rest) ]) (read_all c b qs)) t
+      ap then_all (chosen_true test (reading queue apart left) (row one) t)
       ∙ all_read_so qs queue apart left
-      ∙ ap (sum left queue apart) (sym (apart_passes queue apart o qs t)))
+      ∙ ap (sums left queue apart) (sym (alone_passes queue apart e qs t)))
       (λ t.
-      ap (λ (x : Bool). then_read (elim x as (λ _. Read) [ true ↦ reading queue apart left | false ↦ read_row o left (miscoded (c.rows o)) (λ rest. reading queue (apart ++ o ∷ []) rest) ]) (read_all c b qs)) t
-      ∙ row_then o left (miscoded (c.rows o)) (λ rest. reading queue (apart ++ o ∷ []) rest) (read_all c b qs) (λ rest. sum rest queue (apart ++ o ∷ []) (once queue (o ∷ apart) qs))
-      (λ rest. all_read_so qs queue (apart ++ o ∷ []) rest ∙ ap (sum rest queue (apart ++ o ∷ [])) (once_same qs queue queue (apart ++ o ∷ []) (o ∷ apart) (λ p. refl) (λ p. mem_push nat_eq Decides-eqb skip o p apart)))
-      ∙ sym (sum_apart o left queue apart (once queue (o ∷ apart) qs))
-      ∙ ap (sum left queue apart) (sym (apart_takes queue apart o qs t)))
-      (cases_Bool (spares o || is_in o apart))
+      ap then_all (chosen_false test (reading queue apart left) (row one) t)
+      ∙ row_then e left (miscoded (c.rows e)) one (read_all c b qs) (λ rest. sums rest queue (apart ++ e ∷ []) (once queue (e ∷ apart) qs))
+      (λ rest.
+      all_read_so qs queue (apart ++ e ∷ []) rest
+      ∙ ap (sums rest queue (apart ++ e ∷ []))
+      (once_same qs queue queue (apart ++ e ∷ []) (e ∷ apart) (λ p. refl) (λ p. mem_push nat_eq Decides-eqb skip e p apart)))
+      ∙ sym
+      (sums_row (for_array e) left queue apart queue (apart ++ e ∷ []) (once queue (e ∷ apart) qs) refl (sym (append_assoc apart (e ∷ []) (for_arrays_alone (once queue (e ∷ apart) qs)))))
+      ∙ ap (sums left queue apart) (sym (alone_takes queue apart e qs t)))
+      (cases_Bool (spared c b e || is_in e apart))
 
   then_then : (r : Read) (f g : List ℕ → List ℕ → ℕ → Read) → then_read (then_read r f) g ≡ then_read r (λ u v n. then_read (f u v n) g)
   then_then (reading u v n) f g = refl
@@ -123,13 +141,16 @@ module _ (c : Catalog) (b : Book) where
   then_same (reading u v n) f g e = e u v n
   then_same (halted n p) f g e = refl
 
-  read_append : (xs ys : List Question) (queue apart : List ℕ) (left : ℕ) → read_all c b (xs ++ ys) queue apart left ≡ then_read (read_all c b xs queue apart left) (read_all c b ys)
+  read_append : (xs ys : List Question) (queue apart : List ℕ) (left : ℕ) →
+      read_all c b (xs ++ ys) queue apart left ≡ then_read (read_all c b xs queue apart left) (read_all c b ys)
   read_append [] ys queue apart left = refl
   read_append (x ∷ xs) ys queue apart left =
-      then_same (read_question c b x queue apart left) (read_all c b (xs ++ ys)) (λ u v n. then_read (read_all c b xs u v n) (read_all c b ys)) (read_append xs ys)
+      then_same (read_question c b x queue apart left) (read_all c b (xs ++ ys)) (λ u v n. then_read (read_all c b xs u v n) (read_all c b ys))
+      (read_append xs ys)
       ∙ sym (then_then (read_question c b x queue apart left) (read_all c b xs) (read_all c b ys))
 
-  entries_read : (ds : List Declared) (queue apart : List ℕ) (left : ℕ) → read_entries c b ds queue apart left ≡ read_all c b (all_asks c b ds) queue apart left
+  entries_read : (ds : List Declared) (queue apart : List ℕ) (left : ℕ) →
+      read_entries c b ds queue apart left ≡ read_all c b (all_asks c b ds) queue apart left
   entries_read [] queue apart left = refl
   entries_read (x ∷ ds) queue apart left =
       then_same (read_all c b (entry_asks c b x) queue apart left) (read_entries c b ds) (read_all c b (all_asks c b ds)) (entries_read ds)

@@ -1,5 +1,5 @@
 -- The passes settle exactly the OIDs read that have an unfolding. Assumes nothing.
-use Rattle.std.proofs.Common.{◌+◌, ◌<◌, ◌∙◌, ◌∷◌, ◌≡◌, ◌≤◌, ◌⊎◌, List, None, Option, Some, [], ap, arith, bytes_eq, cond, eq-eqb, eqb-true, false, inl, inr, is_some, length, nat_eq, option_and_then, option_map, refl, subst, suc, sym, true, zero, ℕ, ⊎_elim}
+use Rattle.std.proofs.Common.{◌+◌, ◌<◌, ◌∙◌, ◌∷◌, ◌≡◌, ◌≤◌, ◌⊎◌, List, None, Option, Some, [], ap, arith, bytes_eq, cond, eq-eqb, eqb-true, false, inl, inr, is_some, length, nat_eq, option_and_then, option_map, refl, subst, suc, sym, zero, ℕ, ⊎_elim}
 use Rattle.std.proofs.lemmas.Bool.{cases_Bool}
 use Rattle.catalog.specs.Catalog.{Catalog}
 use Rattle.catalog.specs.Shape.{Shape, formed}
@@ -9,7 +9,7 @@ use Rattle.unfolding.proofs.Unfolding.{unique}
 use Rattle.life.specs.Rounds.{Described, Descriptors, Known, found}
 use Rattle.life.specs.Settle.{PassesLaw, Still, gather, joined, made, made_of, pass, passes, put, put_if, settle_one, settled}
 use Rattle.life.proofs.Known.{Right, found_built, found_held, found_right, known_not}
-use Rattle.life.proofs.Lists.{not_both, not_some_none, split_option}
+use Rattle.life.proofs.Lists.{chosen_false, chosen_true, none_not_some, not_both, not_some_none, split_option}
 
 -- all that b holds d holds too
 abbrev pub Ext : Descriptors → Descriptors → Type 0
@@ -80,12 +80,12 @@ module _ (c : Catalog) where
   one_cases b o =
       ⊎_elim
       (λ n.
-      let opened : settle_one c b o ≡ put_if b o (made c b o) = ap (λ (x : Option Tree). elim (is_some x) as (λ _. Descriptors) [ true ↦ b | false ↦ put_if b o (made c b o) ]) n in
+      let opened : settle_one c b o ≡ put_if b o (made c b o) = chosen_false (is_some (b o)) b (put_if b o (made c b o)) (none_not_some (b o) n) in
       ⊎_elim
       (λ m. inl (opened ∙ ap (put_if b o) m, λ _. m))
       (λ m. inr (m.0, n, m.1, opened ∙ ap (put_if b o) m.1))
       (split_option (made c b o)))
-      (λ h. inl (ap (λ (x : Option Tree). elim (is_some x) as (λ _. Descriptors) [ true ↦ b | false ↦ put_if b o (made c b o) ]) h.1, λ n. absurd (not_some_none h.0 h.1 n)))
+      (λ h. inl (chosen_true (is_some (b o)) b (put_if b o (made c b o)) (ap is_some h.1), λ n. absurd (not_some_none h.0 h.1 n)))
       (split_option (b o))
 
   put_ext : (b : Descriptors) (o : ℕ) (t : Tree) → b o ≡ None → Ext b (put b o t)
