@@ -13,7 +13,7 @@ use Rattle.life.specs.Calls.{AsksColumn, Binding, bind, requests}
 use Rattle.life.specs.Keep.{asks_column, call_event, kept, sources}
 use Rattle.life.specs.Life.{Lived}
 use Rattle.life.specs.Lists.{first_place, fresh_by}
-use Rattle.life.specs.Outcomes.{Fits, Outcome, RefusedAtFirst, Unresolved, concluded, fitted, refusal, unresolved}
+use Rattle.life.specs.Outcomes.{Fits, Outcome, RefusedAtFirst, Unresolved, concluded, fitted, if_fits, unresolved}
 use Rattle.life.specs.Rounds.{Descriptors}
 use Rattle.life.specs.Settle.{settled}
 use Rattle.life.specs.Steps.{Book, Ending, Event, Step, TellsTypeRounds, accepted, accepts, keeps_finds, refused, rounds_told}
@@ -22,7 +22,8 @@ use Rattle.life.proofs.Fresh.{fresh_distinct, fresh_has, has_fresh}
 use Rattle.life.proofs.Keep.{keeping_step, lives_on}
 use Rattle.life.proofs.Life.{fit}
 use Rattle.life.proofs.Lists.{is_none_if, mem_tells, none_not_some, not_both, same_truth, split_option}
-use Rattle.life.proofs.Outcomes.{Next, fits_none, fitted_next, offence_bare, refusal_next, refused_first, unresolved_tells}
+use Rattle.life.proofs.Outcomes.{Next, fits_so, fitted_next, offence_bare, refusal_next, refused_first, unresolved_tells}
+use Rattle.life.proofs.Resolve.{out}
 use Rattle.life.proofs.Tells.{asks_tells, or_first, sources_tell}
 use Rattle.life.proofs.Walk.{Ended, Result, ended_counts, ended_reads, walk_result}
 
@@ -152,7 +153,8 @@ module _ (full full_columns : Book → Option ℕ) (c : Catalog) (b : Book) (q :
   abbrev ToldBind : Outcome → Type 0
   ToldBind o = TellsColumns c b (bind q) o.ending
 
-  round_told : (n : ℕ) (reads : List ℕ) (left : ℕ) (ps : List Pair) → left + n ≡ c.allowance → column_questions b q ≡ ps → ToldBind (column_round full full_columns c b q n reads left ps)
+  round_told : (n : ℕ) (reads : List ℕ) (left : ℕ) (ps : List Pair) → left + n ≡ c.allowance → column_questions b q ≡ ps →
+      ToldBind (column_round full full_columns c b q n reads left ps)
   round_told n reads left [] a e = inr (refl, no_column b q e)
   round_told n reads zero (p ∷ ps) a e = (any_column b q p ps e, inl (refl, refl, omega arith))
   round_told n reads (suc left) (p ∷ ps) a e = go (full_columns (columned reads (p ∷ ps)))
@@ -165,7 +167,7 @@ module _ (full full_columns : Book → Option ℕ) (c : Catalog) (b : Book) (q :
   walked_told : (w : Walked) → Result c b.descriptors rs ⊥ 0 w → ToldBind (concluded b (bind_settled full full_columns c b q) w)
   walked_told (ended n reads) r = go (first_place (unresolved c (settled c b.descriptors reads)) 0 rs) (full (typed reads))
     where
-      go : (x : Option ℕ) (f : Option ℕ) → ToldBind (fitted f (types_settled full full_columns c b q n reads x) (λ table. refusal b 8 table n))
+      go : (x : Option ℕ) (f : Option ℕ) → ToldBind (if_fits f (types_settled full full_columns c b q n reads x) b n)
       go None None = round_told n reads (c.allowance - n) (column_questions b q) (omega (arith, r.2)) refl
       go (Some place) None = tt
       go x (Some t) = tt
@@ -199,9 +201,9 @@ module _ (full full_columns : Book → Option ℕ) (c : Catalog) (b : Book) (q :
         let x : Option ℕ = first_place (unresolved c d) 0 rs in
         let fine : Outcome = types_settled full full_columns c b q n reads x in
         let r = subst (Result c b.descriptors rs ⊥ 0) w (walk_result c b.descriptors rs) in
-        let over : bind_outcome full full_columns c b q ≡ fitted (full (typed reads)) fine (λ table. refusal b 8 table n) = ap (concluded b (bind_settled full full_columns c b q)) w in
-        let room : full (typed reads) ≡ None = fits_none (full (typed reads)) fine b n (subst (λ (o : Outcome). Fits o.ending n) over fits) in
-        let told : (bind_outcome full full_columns c b q).ending ≡ fine.ending = ap (λ (o : Outcome). o.ending) (over ∙ ap (λ f. fitted f fine (λ table. refusal b 8 table n)) room) in
+        let all : Outcome = bind_outcome full full_columns c b q in
+        let out : all ≡ fine = fits_so all fine (full (typed reads)) b n (ap (concluded b (bind_settled full full_columns c b q)) w) fits in
+        let told : all.ending ≡ fine.ending = ap (λ (o : Outcome). o.ending) out in
         refused_first (bind_outcome full full_columns c b q).ending 9 n (unresolved c d) (Unresolved c) rs
         (unresolved_tells c b.descriptors rs (fit h c b l).sound reads (ended_reads c b.descriptors rs ⊥ 0 n reads r.0))
         (λ place. (λ y. (types_nine n reads x place).0 (sym told ∙ y), λ y. told ∙ (types_nine n reads x place).1 y))

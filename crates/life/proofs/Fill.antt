@@ -7,14 +7,15 @@ use Rattle.life.specs.Fill.{FillLaw, NineLaw, QuietLaw, closing, outcome, settle
 use Rattle.life.specs.Keep.{kept}
 use Rattle.life.specs.Life.{Lived}
 use Rattle.life.specs.Lists.{first_place}
-use Rattle.life.specs.Outcomes.{Fits, Outcome, Unresolved, concluded, fitted, refusal, unresolved}
+use Rattle.life.specs.Outcomes.{Outcome, Unresolved, concluded, unresolved}
 use Rattle.life.specs.Rounds.{Descriptors}
 use Rattle.life.specs.Settle.{settled}
 use Rattle.life.specs.Steps.{Book, Event, NamesStand, TellsTypeRounds, accepts, keeps_finds, refused, rounds_told}
 use Rattle.life.specs.Walk.{Walked, ended, stopped, walk_from}
 use Rattle.life.proofs.Keep.{keeping_step, lives_on}
 use Rattle.life.proofs.Life.{fit}
-use Rattle.life.proofs.Outcomes.{Next, fits_none, fitted_next, last_quiet, offence_bare, refusal_next, refused_first, unresolved_tells}
+use Rattle.life.proofs.Outcomes.{Next, fits_so, fitted_next, last_quiet, offence_bare, refusal_next, refused_first, unresolved_tells}
+use Rattle.life.proofs.Resolve.{out}
 use Rattle.life.proofs.Walk.{Result, ended_counts, ended_reads, walk_result}
 
 closing_keeps : (n : ℕ) (x : Option ℕ) → keeps_finds (closing n x) ≡ true
@@ -68,9 +69,8 @@ nine_law full h c b call l n reads w fits =
     let left : Book = kept c call reads b (accepts (closing n x)) in
     let fine : Outcome = record { ending = closing n x; left = left } in
     let r = subst (Result c b.descriptors rs ⊥ 0) w (walk_result c b.descriptors rs) in
-    let over : outcome full c b call ≡ fitted (full left) fine (λ table. refusal b 8 table n) = ap (concluded b (settled_outcome full c b call)) w in
-    let room : full left ≡ None = fits_none (full left) fine b n (subst (λ (o : Outcome). Fits o.ending n) over fits) in
-    let told : (outcome full c b call).ending ≡ closing n x = ap (λ (o : Outcome). o.ending) (over ∙ ap (λ f. fitted f fine (λ table. refusal b 8 table n)) room) in
+    let out : outcome full c b call ≡ fine = fits_so (outcome full c b call) fine (full left) b n (ap (concluded b (settled_outcome full c b call)) w) fits in
+    let told : (outcome full c b call).ending ≡ closing n x = ap (λ (o : Outcome). o.ending) out in
     refused_first (outcome full c b call).ending 9 n (unresolved c d) (Unresolved c) rs
     (unresolved_tells c b.descriptors rs (fit h c b l).sound reads (ended_reads c b.descriptors rs ⊥ 0 n reads r.0))
     (λ place. (λ y. (closing_nine n x place).0 (sym told ∙ y), λ y. told ∙ (closing_nine n x place).1 y))

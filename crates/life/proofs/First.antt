@@ -39,7 +39,8 @@ module _ (c : Catalog) (b : Book) (agree : Agrees c b) where
   name_stands [] t = absurd cc
   name_stands (of_oid o ∷ ds) t = inr (name_stands ds t)
   name_stands (of_name n ∷ ds) t = ⊎_elim (λ y. inl (unanswered_name n y)) (λ y. inr (name_stands ds y)) (or_cases (not (is_some (b.names n))) (list_any (asks_name c b) ds) t)
-  name_stands (array_of n ∷ ds) t = ⊎_elim (λ y. inl (inl (unanswered_name n y))) (λ y. inr (name_stands ds y)) (or_cases (not (is_some (b.names n))) (list_any (asks_name c b) ds) t)
+  name_stands (array_of n ∷ ds) t =
+      ⊎_elim (λ y. inl (inl (unanswered_name n y))) (λ y. inr (name_stands ds y)) (or_cases (not (is_some (b.names n))) (list_any (asks_name c b) ds) t)
 
   abbrev Why : List Declared → Type 0
   Why ds = (list_any (asks_name c b) ds ≡ true) ⊎ ((e : ℕ) × ArrayIn c ds e × (b.arrays e ≡ None))
@@ -114,7 +115,8 @@ module _ (c : Catalog) (b : Book) (agree : Agrees c b) where
     opened : (allowance : ℕ) → allowance ≡ c.allowance → Anything c b.descriptors rs (SomeStands c b ds) 1 → Come (first_opened c b allowance qs)
     opened zero a any = (inl (inl (refl, refl, refl, sym a, any)), omega arith)
     opened (suc allowance) a any =
-        let next : ℕ → Walked = λ rest. walk c skip 63 1 rest allowance (fresh skip (asked_in_full qs) (links_of c (asked_in_full qs))) (asked_in_full qs) in
+        let read : List ℕ = asked_in_full qs in
+        let next : ℕ → Walked = λ rest. walk c skip 63 1 rest allowance (fresh skip read (links_of c read)) read in
         let full = round_full c b agree ds in
         let parts = parts_length qs in
         ⊎_elim
@@ -123,7 +125,7 @@ module _ (c : Catalog) (b : Book) (agree : Agrees c b) where
         let sane = each_sane c qs h.1 in
         subst (λ x. Come (and_then x 1 next)) (sym r.1)
         (come_on sane.1 (next r.0)
-        (walked c b.descriptors rs (SomeStands c b ds) extra 63 1 r.0 allowance (fresh skip (asked_in_full qs) (links_of c (asked_in_full qs))) (asked_in_full qs) refl (omega (arith, a))
+        (walked c b.descriptors rs (SomeStands c b ds) extra 63 1 r.0 allowance (fresh skip read (links_of c read)) read refl (omega (arith, a))
         (record {
           here = λ i. fresh skip (full i) (links_of c (full i));
           behind = full;
@@ -177,7 +179,8 @@ module _ (c : Catalog) (b : Book) (agree : Agrees c b) where
             few = λ os d all.
                 omega (
                   arith,
-                  pigeon os (reads ++ alone) d (λ o m. ⊎_elim (λ s. mem_left o reads alone ((are o).1 s)) (λ a. mem_right o reads alone ((alone_apart c b agree ds o).1 a)) (all o m)),
+                  pigeon os (reads ++ alone) d
+                      (λ o m. ⊎_elim (λ s. mem_left o reads alone ((are o).1 s)) (λ a. mem_right o reads alone ((alone_apart c b agree ds o).1 a)) (all o m)),
                   g.0.0.few,
                   length-append reads alone,
                 );
@@ -192,7 +195,8 @@ module _ (c : Catalog) (b : Book) (agree : Agrees c b) where
               arith,
               length-append (earlier c b.descriptors rs k) alone,
               o.few (earlier c b.descriptors rs k ++ alone) (all_distinct c b agree ds k)
-                  (λ p m. ⊎_elim (λ s. inl (earlier_stands c b.descriptors rs k p s)) (λ a. inr ((alone_apart c b agree ds p).0 a)) (mem_split p (earlier c b.descriptors rs k) alone m)),
+                  (λ p m. ⊎_elim (λ s. inl (earlier_stands c b.descriptors rs k p s)) (λ a. inr ((alone_apart c b agree ds p).0 a))
+                  (mem_split p (earlier c b.descriptors rs k) alone m)),
             )
 
         -- no question of round 1 is refused

@@ -1,13 +1,13 @@
 -- What computed calls share: refusals that keep nothing are steps, and refusals 9 and 10 have the first place.
 -- Assumes nothing.
-use Rattle.std.proofs.Common.{◌&&◌, ◌↔◌, ◌≡◌, ◌≤◌, ◌⊎◌, Bool, List, None, Option, Some, ap, false, inl, inr, is_some, not, refl, true, ℕ, ⊎_elim}
+use Rattle.std.proofs.Common.{◌&&◌, ◌↔◌, ◌∙◌, ◌≡◌, ◌≤◌, ◌⊎◌, Bool, List, None, Option, Some, ap, false, inl, inr, is_some, not, refl, subst, true, ℕ, ⊎_elim}
 use Rattle.std.proofs.lemmas.Bool.{and_parts, not-true}
 use Rattle.catalog.specs.Catalog.{Catalog, Laws}
 use Rattle.unfolding.specs.Lists.{Mem}
 use Rattle.life.specs.Calls.{Call}
 use Rattle.life.specs.Keep.{call_event}
 use Rattle.life.specs.Lists.{first_place}
-use Rattle.life.specs.Outcomes.{Fits, Outcome, RefusedAtFirst, Unresolved, fitted, refusal, unresolved}
+use Rattle.life.specs.Outcomes.{Fits, Outcome, RefusedAtFirst, Unresolved, if_fits, refusal, unresolved}
 use Rattle.life.specs.Rounds.{Descriptors, LastRound, StandsOnce, found}
 use Rattle.life.specs.Settle.{settled}
 use Rattle.life.specs.Steps.{Book, Ending, Step, keeps_finds, refused}
@@ -38,7 +38,7 @@ module _ (c : Catalog) (b : Book) (call : Call) (laws : Laws c) where
   pub refusal_next : (n p r : ℕ) → Bare n → r ≤ c.allowance → Next (refusal b n p r)
   refusal_next n p r x le = leaving_step c b call (refused n p false r) laws (bare_leaves n p r x) le
 
-  pub fitted_next : (f : Option ℕ) (fine : Outcome) (n : ℕ) → n ≤ c.allowance → Next fine → Next (fitted f fine (λ table. refusal b 8 table n))
+  pub fitted_next : (f : Option ℕ) (fine : Outcome) (n : ℕ) → n ≤ c.allowance → Next fine → Next (if_fits f fine b n)
   fitted_next None fine n le x = x
   fitted_next (Some t) fine n le x = refusal_next 8 t n (inr (inr (inr (inr refl)))) le
 
@@ -48,10 +48,13 @@ last_quiet c b rs others quiet n l = (
   ⊎_elim (λ z. inl z) (λ z. inr (⊎_elim (λ y. inl (y.0, absurd y.1)) (λ y. inr y) z)) l.1,
 )
 
--- where it is not refused by 8, no table is full
-pub fits_none : (f : Option ℕ) (fine : Outcome) (b : Book) (n : ℕ) → Fits (fitted f fine (λ table. refusal b 8 table n)).ending n → f ≡ None
-fits_none None fine b n x = refl
-fits_none (Some t) fine b n x = absurd (x t refl)
+-- what is not refused by 8 is what follows where it fits
+pub fits_so : (o fine : Outcome) (f : Option ℕ) (b : Book) (n : ℕ) → o ≡ if_fits f fine b n → Fits o.ending n → o ≡ fine
+fits_so o fine f b n e fits = e ∙ so f (subst (λ (x : Outcome). Fits x.ending n) e fits)
+  where
+    so : (f : Option ℕ) → Fits (if_fits f fine b n).ending n → if_fits f fine b n ≡ fine
+    so None x = refl
+    so (Some t) x = absurd (x t refl)
 
 -- what is refused at the place that a test gives is refused at the first place of what the test tells
 pub refused_first : {A : Type 0} (e : Ending) (number n : ℕ) (test : A → Bool) (P : A → Type 0) (xs : List A) → Agree test P xs →

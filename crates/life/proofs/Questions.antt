@@ -60,7 +60,10 @@ parts_length (for_array e ∷ qs) = omega (arith, parts_length qs)
 -- where no question is refused, no row read in full is malformed and none read apart has a code that is not listed
 pub each_sane : (c : Catalog) (qs : List Question) → Each (λ q. refusable c q ≡ false) qs →
     ((o : ℕ) → Mem o (asked_in_full qs) → malformed c o ≡ false) × ((e : ℕ) → Mem e (for_arrays_alone qs) → miscoded (c.rows e) ≡ false)
-each_sane c qs all = (λ o m. each_mem (λ q. refusable c q ≡ false) qs all (in_full o) (full_mem o qs m), λ e m. each_mem (λ q. refusable c q ≡ false) qs all (for_array e) (alone_mem e qs m))
+each_sane c qs all = (
+  λ o m. each_mem (λ q. refusable c q ≡ false) qs all (in_full o) (full_mem o qs m),
+  λ e m. each_mem (λ q. refusable c q ≡ false) qs all (for_array e) (alone_mem e qs m),
+)
 
 -- a choice, through a function
 through : {A B : Type 0} (f : A → B) (t : Bool) (x y : A) → f (elim t as (λ _. A) [ true ↦ x | false ↦ y ]) ≡ (elim t as (λ _. B) [ true ↦ f x | false ↦ f y ])
@@ -198,7 +201,8 @@ module _ (c : Catalog) (b : Book) where
             (alone_in ds e (alone_mem e (all_asks c b ds) h.0), s.0, s.1),
         λ a.
             subst (Mem e) (sym round_alone)
-            (has_fresh nat_eq Decides-eqb (spared c b) (for_arrays_alone (all_asks c b ds)) [] e (mem_alone e (all_asks c b ds) (in_both ds e a.0).0) ((unspared e).1 (a.1, a.2)) (λ x. x)),
+            (has_fresh nat_eq Decides-eqb (spared c b) (for_arrays_alone (all_asks c b ds)) [] e (mem_alone e (all_asks c b ds) (in_both ds e a.0).0)
+            ((unspared e).1 (a.1, a.2)) (λ x. x)),
       )
 
       -- the element of a declared array that the book does not hold is read, in full or apart

@@ -108,7 +108,8 @@ module _ (c : Catalog) (b : Book) where
       ∙ ap (sums rest (queue ++ o ∷ []) apart)
       (once_same qs (queue ++ o ∷ []) (o ∷ queue) apart apart (λ p. mem_push nat_eq Decides-eqb skip o p queue) (λ p. refl)))
       ∙ sym
-      (sums_row (in_full o) left queue apart (queue ++ o ∷ []) apart (once (o ∷ queue) apart qs) (sym (append_assoc queue (o ∷ []) (asked_in_full (once (o ∷ queue) apart qs)))) refl)
+      (sums_row (in_full o) left queue apart (queue ++ o ∷ []) apart (once (o ∷ queue) apart qs)
+      (sym (append_assoc queue (o ∷ []) (asked_in_full (once (o ∷ queue) apart qs)))) refl)
       ∙ ap (sums left queue apart) (sym (full_takes queue apart o qs t)))
       (cases_Bool (skip o || is_in o queue))
   all_read_so (for_array e ∷ qs) queue apart left =
@@ -129,7 +130,8 @@ module _ (c : Catalog) (b : Book) where
       ∙ ap (sums rest queue (apart ++ e ∷ []))
       (once_same qs queue queue (apart ++ e ∷ []) (e ∷ apart) (λ p. refl) (λ p. mem_push nat_eq Decides-eqb skip e p apart)))
       ∙ sym
-      (sums_row (for_array e) left queue apart queue (apart ++ e ∷ []) (once queue (e ∷ apart) qs) refl (sym (append_assoc apart (e ∷ []) (for_arrays_alone (once queue (e ∷ apart) qs)))))
+      (sums_row (for_array e) left queue apart queue (apart ++ e ∷ []) (once queue (e ∷ apart) qs) refl
+      (sym (append_assoc apart (e ∷ []) (for_arrays_alone (once queue (e ∷ apart) qs)))))
       ∙ ap (sums left queue apart) (sym (alone_takes queue apart e qs t)))
       (cases_Bool (spared c b e || is_in e apart))
 

@@ -11,7 +11,7 @@ use Rattle.life.specs.Calls.{Declared, all_requests, array_link, array_of, entry
 use Rattle.life.specs.Keep.{array_in, call_event, kept, kept_names}
 use Rattle.life.specs.Life.{Agrees, Lived}
 use Rattle.life.specs.Lists.{first_place, is_in}
-use Rattle.life.specs.Outcomes.{Fits, Outcome, RefusedAtFirst, concluded, fitted, refusal, unresolved}
+use Rattle.life.specs.Outcomes.{Fits, Outcome, RefusedAtFirst, concluded, if_fits, unresolved}
 use Rattle.life.specs.Resolve.{EntryLaw, EntryUnresolved, HasNoOid, HasOid, ResolveLaw, ResolveNineLaw, Resolves, TenLaw, WrittenLaw, closing_resolve, entry_oid, lacks, link_from, offends, oids, resolve_ending, resolve_left, resolve_outcome, resolve_settled, resolved_book}
 use Rattle.life.specs.RoundOne.{asked_in_full, entry_asks, for_arrays_alone, lead, resolve_walk, round_one}
 use Rattle.life.specs.Rounds.{Descriptors, StandsOnce}
@@ -22,7 +22,7 @@ use Rattle.life.proofs.First.{Come, Stop, resolve_come}
 use Rattle.life.proofs.Keep.{keeping_step, lives_on, settled_leads}
 use Rattle.life.proofs.Life.{agrees, fit}
 use Rattle.life.proofs.Lists.{in_mem, mem_in, mem_left, mem_right, not_both, not_some_none, place_no, place_some, place_yes, same_truth, split_option}
-use Rattle.life.proofs.Outcomes.{Bare, Next, fits_none, fitted_next, offence_bare, refusal_next, refused_first, unresolved_tells}
+use Rattle.life.proofs.Outcomes.{Bare, Next, fits_so, fitted_next, offence_bare, refusal_next, refused_first, unresolved_tells}
 use Rattle.life.proofs.Questions.{alone_apart, element_read, entry_full, lead_is, link_is, round_full}
 use Rattle.life.proofs.Standing.{layer_stands}
 use Rattle.life.proofs.Tells.{array_tells, or_first}
@@ -195,7 +195,7 @@ module _ (full : Book → Option ℕ) (c : Catalog) (b : Book) (ds : List Declar
   abbrev Unlacked : Outcome → Type 0
   Unlacked o = accepts o.ending ≡ true → first_place (lacks c b o.left.descriptors) 0 ds ≡ None
 
-  fitted_lacks : (fine : Outcome) (n : ℕ) (f : Option ℕ) → Unlacked fine → Unlacked (fitted f fine (λ table. refusal b 8 table n))
+  fitted_lacks : (fine : Outcome) (n : ℕ) (f : Option ℕ) → Unlacked fine → Unlacked (if_fits f fine b n)
   fitted_lacks fine n None u = u
   fitted_lacks fine n (Some t) u = λ e. absurd cc
 
@@ -243,14 +243,8 @@ module _ (full : Book → Option ℕ) (h : List Event) (c : Catalog) (b : Book) 
   abbrev fine : Outcome
   fine = record { ending = closing_resolve n nine ten; left = resolve_left full c b ds reads }
 
-  over : resolve_outcome full c b ds ≡ fitted (full (resolve_left full c b ds reads)) fine (λ table. refusal b 8 table n)
-  over = ap (concluded b (resolve_settled full c b ds)) w
-
   pub out : resolve_outcome full c b ds ≡ fine
-  out =
-      over
-      ∙ ap (λ f. fitted f fine (λ table. refusal b 8 table n))
-      (fits_none (full (resolve_left full c b ds reads)) fine b n (subst (λ (o : Outcome). Fits o.ending n) over fits))
+  out = fits_so (resolve_outcome full c b ds) fine (full (resolve_left full c b ds reads)) b n (ap (concluded b (resolve_settled full c b ds)) w) fits
 
   offends_tells : (x : Declared) → Mem x ds → (offends c b d x ≡ true) ↔ EntryUnresolved c x
   offends_tells x m =

@@ -12,7 +12,7 @@ use Rattle.life.specs.Fill.{closing, outcome, settled_outcome}
 use Rattle.life.specs.Keep.{call_event, kept, pretty_in}
 use Rattle.life.specs.Life.{Agrees, Lived}
 use Rattle.life.specs.Lists.{first_place}
-use Rattle.life.specs.Outcomes.{Outcome, TypeRounds, concluded, fitted, refusal, unresolved}
+use Rattle.life.specs.Outcomes.{Outcome, TypeRounds, concluded, fitted, if_fits, unresolved}
 use Rattle.life.specs.Resolve.{closing_resolve, lacks, offends, resolve_left, resolve_settled}
 use Rattle.life.specs.RoundOne.{asked_oid, for_arrays_alone, refusable, resolve_walk, round_one}
 use Rattle.life.specs.Rounds.{Descriptors, LastRound, Stands}
@@ -54,7 +54,7 @@ offence_early : (c : Catalog) (b : Descriptors) (rs : List ℕ) (extra n p r : �
 offence_early c b rs extra n p r =
     ⊎_elim (λ x. inl x.0) (⊎_elim (λ x. inr (inl x.0)) (λ x. at_row_early (λ q. q) (malformed c) x.1 (standing c b rs x.0) n p x.6))
 
-fitted_tells : (f : Option ℕ) (fine : Outcome) (b : Book) (n k : ℕ) → (TypeRounds fine.ending k → n ≡ k) → TypeRounds (fitted f fine (λ table. refusal b 8 table n)).ending k → n ≡ k
+fitted_tells : (f : Option ℕ) (fine : Outcome) (b : Book) (n k : ℕ) → (TypeRounds fine.ending k → n ≡ k) → TypeRounds (if_fits f fine b n).ending k → n ≡ k
 fitted_tells None fine b n k g t = g t
 fitted_tells (Some at) fine b n k g t = t.1
 
@@ -83,7 +83,8 @@ module _ (full full_columns : Book → Option ℕ) (c : Catalog) (b : Book) (k :
       fitted_tells (full left) (record { ending = closing n x; left = left }) b n k (closing_tells n x k))
       (walk_from c b.descriptors rs) (walk_result c b.descriptors rs)
 
-  resolve_rounds : (agree : Agrees c b) (ds : List Declared) (w : Walked) → Come c b agree ds w → TypeRounds (concluded b (resolve_settled full c b ds) w).ending k → LastOfCall c b (resolve ds) k
+  resolve_rounds : (agree : Agrees c b) (ds : List Declared) (w : Walked) → Come c b agree ds w →
+      TypeRounds (concluded b (resolve_settled full c b ds) w).ending k → LastOfCall c b (resolve ds) k
   resolve_rounds agree ds (ended n reads) g t =
       let x : Option ℕ = first_place (offends c b (settled c b.descriptors reads)) 0 ds in
       let y : Option ℕ = first_place (lacks c b (settled c b.descriptors reads)) 0 ds in
@@ -169,7 +170,8 @@ same_book h c b o l = λ i. record {
 describe_step : (h : List Event) (c : Catalog) (b : Book) (o : ℕ) → Laws c → Lived h c b → Step (call_event c (describe o) (accepted 0 0)) b b
 describe_step h c b o laws l =
     subst (λ (k : Book). Step (call_event c (describe o) (accepted 0 0)) b k) (same_book h c b o l)
-    (keeping_step h c b (describe o) (accepted 0 0) [] 0 laws l (λ p. (λ m. absurd m, λ x. absurd (nothing_stands c b.descriptors x.0 p x.1))) (nothing_last c b o) refl (λ k t. t) (omega arith))
+    (keeping_step h c b (describe o) (accepted 0 0) [] 0 laws l
+    (λ p. (λ m. absurd m, λ x. absurd (nothing_stands c b.descriptors x.0 p x.1))) (nothing_last c b o) refl (λ k t. t) (omega arith))
 
 module _ (full full_columns : Book → Option ℕ) where
   perform_step : (h : List Event) (c : Catalog) (b : Book) (call : Call) → Laws c → Lived h c b →

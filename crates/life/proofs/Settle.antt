@@ -51,7 +51,8 @@ module _ (c : Catalog) where
       let j = joined_some (found b o) (gather b os) ts e in
       (λ i. joined (found_ext b d x o j.0 j.2 i) (gather_ext b d x os j.1 j.3 i)) ∙ ap (λ u. Some u) j.4
 
-  made_some : (b : Descriptors) (o : ℕ) (t : Tree) → made c b o ≡ Some t → (s : Shape) × (ts : Trees) × (formed c o ≡ Some s) × (gather b s.links ≡ Some ts) × (node o s.name s.head ts ≡ t)
+  made_some : (b : Descriptors) (o : ℕ) (t : Tree) → made c b o ≡ Some t →
+      (s : Shape) × (ts : Trees) × (formed c o ≡ Some s) × (gather b s.links ≡ Some ts) × (node o s.name s.head ts ≡ t)
   made_some b o t e =
       ⊎_elim
       (λ n. absurd (not_some_none t e (ap (option_and_then (made_of b o)) n)))

@@ -11,7 +11,7 @@ use Rattle.life.specs.Calls.{AsksColumn, Binding, Call, bind, requests}
 use Rattle.life.specs.Keep.{LivesOn, kept, sources}
 use Rattle.life.specs.Life.{Lived}
 use Rattle.life.specs.Lists.{first_place, fresh_by}
-use Rattle.life.specs.Outcomes.{Fits, Outcome, RefusedAtFirst, Unresolved, concluded, fitted, refusal, unresolved}
+use Rattle.life.specs.Outcomes.{Fits, Outcome, RefusedAtFirst, Unresolved, concluded, fitted, if_fits, unresolved}
 use Rattle.life.specs.Settle.{settled}
 use Rattle.life.specs.Steps.{Book, Ending, Event, KeepsColumns, accepted, accepts, refused}
 use Rattle.life.specs.Walk.{ended, walk_from}
@@ -49,9 +49,7 @@ module _ (full full_columns : Book → Option ℕ) (c : Catalog) (b : Book) (q :
 
   abbrev pub bind_settled : ℕ → List ℕ → Outcome
   bind_settled n reads =
-      fitted (full (types_book reads))
-      (types_settled n reads (first_place (unresolved c (settled c b.descriptors reads)) 0 (requests c (bind q))))
-      (λ table. refusal b 8 table n)
+      if_fits (full (types_book reads)) (types_settled n reads (first_place (unresolved c (settled c b.descriptors reads)) 0 (requests c (bind q)))) b n
 
   abbrev pub bind_outcome : Outcome
   bind_outcome = concluded b bind_settled (walk_from c b.descriptors (requests c (bind q)))

@@ -6,7 +6,7 @@ use Rattle.life.specs.Calls.{Call, fill, requests}
 use Rattle.life.specs.Keep.{LivesOn, kept}
 use Rattle.life.specs.Life.{Lived}
 use Rattle.life.specs.Lists.{first_place}
-use Rattle.life.specs.Outcomes.{Fits, Outcome, RefusedAtFirst, Unresolved, concluded, fitted, refusal, unresolved}
+use Rattle.life.specs.Outcomes.{Fits, Outcome, RefusedAtFirst, Unresolved, concluded, if_fits, unresolved}
 use Rattle.life.specs.Settle.{settled}
 use Rattle.life.specs.Steps.{Book, Ending, Event, NamesStand, accepted, accepts, refused}
 use Rattle.life.specs.Walk.{ended, walk_from}
@@ -23,7 +23,7 @@ module _ (full : Book → Option ℕ) (c : Catalog) (b : Book) (call : Call) whe
   abbrev pub settled_outcome : ℕ → List ℕ → Outcome
   settled_outcome n reads =
       let left : Book = kept c call reads b (accepts (settled_ending n reads)) in
-      fitted (full left) (record { ending = settled_ending n reads; left = left }) (λ table. refusal b 8 table n)
+      if_fits (full left) (record { ending = settled_ending n reads; left = left }) b n
 
   abbrev pub outcome : Outcome
   outcome = concluded b settled_outcome (walk_from c b.descriptors (requests c call))

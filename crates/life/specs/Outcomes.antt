@@ -22,6 +22,10 @@ abbrev pub fitted : Option ℕ → Outcome → (ℕ → Outcome) → Outcome
 fitted None fine over = fine
 fitted (Some table) fine over = over table
 
+-- or refusal 8, after n rounds
+abbrev pub if_fits : Option ℕ → Outcome → Book → ℕ → Outcome
+if_fits f fine b n = fitted f fine (λ table. refusal b 8 table n)
+
 -- what follows where the rounds ended, or their refusal
 abbrev pub concluded : Book → (ℕ → List ℕ → Outcome) → Walked → Outcome
 concluded b next (ended n reads) = next n reads

@@ -9,7 +9,7 @@ use Rattle.life.specs.Calls.{Declared, array_link, array_of, entry_requests, of_
 use Rattle.life.specs.Keep.{LivesOn, if_settled, kept_names}
 use Rattle.life.specs.Life.{Lived}
 use Rattle.life.specs.Lists.{first_place, is_in}
-use Rattle.life.specs.Outcomes.{Fits, Outcome, RefusedAtFirst, Unresolved, concluded, fitted, refusal, unresolved}
+use Rattle.life.specs.Outcomes.{Fits, Outcome, RefusedAtFirst, Unresolved, concluded, if_fits, unresolved}
 use Rattle.life.specs.RoundOne.{asked_in_full, entry_asks, for_arrays_alone, lead, link, resolve_walk, round_one}
 use Rattle.life.specs.Rounds.{Descriptors, Known}
 use Rattle.life.specs.Settle.{settled}
@@ -62,7 +62,7 @@ module _ (full : Book → Option ℕ) (c : Catalog) (b : Book) (ds : List Declar
 
   abbrev pub resolve_settled : ℕ → List ℕ → Outcome
   resolve_settled n reads =
-      fitted (full (resolve_left reads)) (record { ending = resolve_ending n reads; left = resolve_left reads }) (λ table. refusal b 8 table n)
+      if_fits (full (resolve_left reads)) (record { ending = resolve_ending n reads; left = resolve_left reads }) b n
 
   abbrev pub resolve_outcome : Outcome
   resolve_outcome = concluded b resolve_settled (resolve_walk c b ds)
