@@ -1,12 +1,12 @@
 -- What the questions of one round come to.
 -- Assumes nothing.
-use Rattle.std.proofs.Common.{◌+◌, ◌∙◌, ◌∷◌, ◌≡◌, ◌⊎◌, Bool, List, [], ap, arith, false, inl, inr, length, refl, subst, suc, sym, true, zero, ℕ, ⊎_elim}
+use Rattle.std.proofs.Common.{◌≡◌, ℕ, zero, suc, ◌+◌, Bool, true, false, ◌⊎◌, List, [], ◌∷◌, length, sym, refl, ap, ◌∙◌, subst, inl, inr, ⊎_elim, arith}
 use Rattle.std.proofs.lemmas.Bool.{cases_Bool}
 use Rattle.catalog.specs.Catalog.{Each}
 use Rattle.unfolding.specs.Lists.{Mem}
 use Rattle.life.specs.Stops.{StopsAt}
-use Rattle.life.specs.Walk.{Asked, all_read, ask_each, stop}
-use Rattle.life.proofs.Lists.{chosen_false, chosen_true}
+use Rattle.life.specs.Walk.{Asked, all_read, stop, ask_each}
+use Rattle.life.proofs.Lists.{chosen_true, chosen_false}
 
 pub split_asked : (a : Asked) → ((l : ℕ) × (a ≡ all_read l)) ⊎ ((n p : ℕ) × (a ≡ stop n p))
 split_asked (all_read l) = inl (l, refl)

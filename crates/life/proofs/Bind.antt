@@ -1,30 +1,29 @@
 -- A computed Bind is a step of any life; what its column round asks for and tells.
 -- Assumes nothing.
-use Rattle.std.proofs.Common.{◌&&◌, ◌+◌, ◌-◌, ◌↔◌, ◌∙◌, ◌∷◌, ◌≡◌, ◌≤◌, ◌⊎◌, Bool, List, None, Option, Some, [], ap, arith, cond, false, inl, inr, is_some, refl, subst, suc, sym, true, zero, ℕ, ℤ, ⊎_elim}
+use Rattle.std.proofs.Common.{◌≡◌, ℕ, zero, suc, ◌+◌, ◌-◌, ◌≤◌, Bool, true, false, cond, ◌&&◌, ◌⊎◌, ◌↔◌, List, [], ◌∷◌, ℤ, is_some, Some, None, Option, sym, refl, ap, ◌∙◌, subst, inl, inr, ⊎_elim, arith}
 use Rattle.std.proofs.lemmas.Bool.{and_from, and_parts, cases_Bool, cond-false, cond-true}
 use Rattle.std.specs.List.{list_any}
 use Rattle.std.specs.Option.{option_or}
-use Rattle.catalog.specs.Catalog.{Catalog, CatalogColumn, Laws}
+use Rattle.catalog.specs.Catalog.{CatalogColumn, Catalog, Laws}
 use Rattle.keys.specs.Kinds.{same-pair}
 use Rattle.keys.specs.Senses.{Pair, same_pair}
-use Rattle.unfolding.specs.Lists.{Distinct, Mem}
-use Rattle.life.specs.Bind.{AnyColumn, BindLaw, BindNineLaw, ColumnRoundLaw, ColumnsLaw, QuestionsLaw, TellsColumns, bind_outcome, bind_settled, column_questions, column_round, columns_book, types_book, types_settled}
-use Rattle.life.specs.Calls.{AsksColumn, Binding, bind, requests}
-use Rattle.life.specs.Keep.{asks_column, call_event, kept, sources}
+use Rattle.unfolding.specs.Lists.{Mem, Distinct}
+use Rattle.life.specs.Bind.{column_questions, types_book, columns_book, column_round, types_settled, bind_settled, bind_outcome, BindLaw, ColumnsLaw, QuestionsLaw, AnyColumn, TellsColumns, ColumnRoundLaw, BindNineLaw}
+use Rattle.life.specs.Calls.{Binding, bind, requests, AsksColumn}
+use Rattle.life.specs.Keep.{sources, asks_column, kept, call_event}
 use Rattle.life.specs.Life.{Lived}
-use Rattle.life.specs.Lists.{first_place, fresh_by}
-use Rattle.life.specs.Outcomes.{Fits, Outcome, RefusedAtFirst, Unresolved, concluded, fitted, if_fits, unresolved}
+use Rattle.life.specs.Lists.{fresh_by, first_place}
+use Rattle.life.specs.Outcomes.{Outcome, fitted, if_fits, concluded, unresolved, Unresolved, Fits, RefusedAtFirst}
 use Rattle.life.specs.Rounds.{Descriptors}
 use Rattle.life.specs.Settle.{settled}
-use Rattle.life.specs.Steps.{Book, Ending, Event, Step, TellsTypeRounds, accepted, accepts, keeps_finds, refused, rounds_told}
+use Rattle.life.specs.Steps.{Book, Ending, accepted, refused, rounds_told, accepts, keeps_finds, TellsTypeRounds, Event, Step}
 use Rattle.life.specs.Walk.{Walked, ended, stopped, walk_from}
-use Rattle.life.proofs.Fresh.{fresh_distinct, fresh_has, has_fresh}
+use Rattle.life.proofs.Fresh.{fresh_has, has_fresh, fresh_distinct}
 use Rattle.life.proofs.Keep.{keeping_step, lives_on}
 use Rattle.life.proofs.Life.{fit}
-use Rattle.life.proofs.Lists.{is_none_if, mem_tells, none_not_some, not_both, same_truth, split_option}
-use Rattle.life.proofs.Outcomes.{Next, fits_so, fitted_next, offence_bare, refusal_next, refused_first, unresolved_tells}
-use Rattle.life.proofs.Resolve.{out}
-use Rattle.life.proofs.Tells.{asks_tells, or_first, sources_tell}
+use Rattle.life.proofs.Lists.{not_both, split_option, is_none_if, none_not_some, same_truth, mem_tells}
+use Rattle.life.proofs.Outcomes.{offence_bare, Next, refusal_next, fitted_next, fits_so, refused_first, unresolved_tells}
+use Rattle.life.proofs.Tells.{or_first, sources_tell, asks_tells}
 use Rattle.life.proofs.Walk.{Ended, Result, ended_counts, ended_reads, walk_result}
 
 module _ (b : Book) (q : Binding) where

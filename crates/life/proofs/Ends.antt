@@ -1,15 +1,15 @@
 -- A walk ends exactly where it is orderly, and stops at its first offence.
 -- Assumes nothing.
-use Rattle.std.proofs.Common.{◌+◌, ◌<◌, ◌∙◌, ◌∷◌, ◌≡◌, ◌⊎◌, List, ap, arith, inl, inr, length, length-append, refl, subst, suc, sym, true, ℕ, ⊎_elim}
+use Rattle.std.proofs.Common.{◌≡◌, ℕ, suc, ◌+◌, ◌<◌, true, ◌⊎◌, List, ◌∷◌, length, sym, refl, ap, ◌∙◌, subst, inl, inr, ⊎_elim, arith, length-append}
 use Rattle.catalog.specs.Catalog.{Catalog}
 use Rattle.unfolding.specs.Lists.{Mem}
 use Rattle.unfolding.proofs.Lists.{pigeon}
 use Rattle.life.specs.Rounds.{Descriptors, Stands}
-use Rattle.life.specs.Stops.{EndsLaw, Needed, Offence, Orderly, StopsLaw, earlier, standing}
-use Rattle.life.specs.Walk.{Walked, ended, malformed, stopped, walk_from}
-use Rattle.life.proofs.Lists.{mem_right, not_both}
-use Rattle.life.proofs.Standing.{earlier_distinct, earlier_stands, layer_stands}
-use Rattle.life.proofs.Walk.{Result, ended_counts, ended_reads, last_once, walk_result}
+use Rattle.life.specs.Stops.{standing, earlier, Orderly, Needed, Offence, EndsLaw, StopsLaw}
+use Rattle.life.specs.Walk.{malformed, Walked, ended, stopped, walk_from}
+use Rattle.life.proofs.Lists.{not_both, mem_right}
+use Rattle.life.proofs.Standing.{layer_stands, earlier_stands, earlier_distinct}
+use Rattle.life.proofs.Walk.{Result, ended_counts, ended_reads, walk_result, last_once}
 
 module _ (c : Catalog) (b : Descriptors) (rs : List ℕ) (extra : ℕ) where
   -- what an offence shows of the rounds

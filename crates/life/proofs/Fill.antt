@@ -1,21 +1,20 @@
 -- A computed Fill is a step of any life, and refusal 9 has its place.
 -- Assumes nothing.
-use Rattle.std.proofs.Common.{◌↔◌, ◌∙◌, ◌≡◌, List, None, Option, Some, ap, arith, false, refl, subst, sym, true, ℕ}
+use Rattle.std.proofs.Common.{◌≡◌, ℕ, true, false, ◌↔◌, List, Some, None, Option, sym, refl, ap, ◌∙◌, subst, arith}
 use Rattle.catalog.specs.Catalog.{Catalog, Laws}
 use Rattle.life.specs.Calls.{Call, fill, requests}
-use Rattle.life.specs.Fill.{FillLaw, NineLaw, QuietLaw, closing, outcome, settled_outcome}
+use Rattle.life.specs.Fill.{closing, settled_outcome, outcome, QuietLaw, FillLaw, NineLaw}
 use Rattle.life.specs.Keep.{kept}
 use Rattle.life.specs.Life.{Lived}
 use Rattle.life.specs.Lists.{first_place}
-use Rattle.life.specs.Outcomes.{Outcome, Unresolved, concluded, unresolved}
+use Rattle.life.specs.Outcomes.{Outcome, concluded, unresolved, Unresolved}
 use Rattle.life.specs.Rounds.{Descriptors}
 use Rattle.life.specs.Settle.{settled}
-use Rattle.life.specs.Steps.{Book, Event, NamesStand, TellsTypeRounds, accepts, keeps_finds, refused, rounds_told}
+use Rattle.life.specs.Steps.{Book, refused, rounds_told, accepts, keeps_finds, TellsTypeRounds, Event, NamesStand}
 use Rattle.life.specs.Walk.{Walked, ended, stopped, walk_from}
 use Rattle.life.proofs.Keep.{keeping_step, lives_on}
 use Rattle.life.proofs.Life.{fit}
-use Rattle.life.proofs.Outcomes.{Next, fits_so, fitted_next, last_quiet, offence_bare, refusal_next, refused_first, unresolved_tells}
-use Rattle.life.proofs.Resolve.{out}
+use Rattle.life.proofs.Outcomes.{offence_bare, Next, refusal_next, fitted_next, last_quiet, fits_so, refused_first, unresolved_tells}
 use Rattle.life.proofs.Walk.{Result, ended_counts, ended_reads, walk_result}
 
 closing_keeps : (n : ℕ) (x : Option ℕ) → keeps_finds (closing n x) ≡ true

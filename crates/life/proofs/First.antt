@@ -1,27 +1,27 @@
 -- The rounds of a Resolve: what they come to, when they end and where they stop.
 -- Assumes nothing.
-use Rattle.std.proofs.Common.{◌++◌, ◌+◌, ◌||◌, ◌∙◌, ◌∷◌, ◌≡◌, ◌≤◌, ◌⊎◌, Bool, List, None, [], ap, arith, false, inl, inr, is_some, length, length-append, not, refl, subst, suc, sym, true, zero, ℕ, ⊎_elim}
+use Rattle.std.proofs.Common.{◌≡◌, ℕ, zero, suc, ◌+◌, ◌≤◌, Bool, true, false, not, ◌||◌, ◌⊎◌, List, [], ◌∷◌, ◌++◌, length, is_some, None, sym, refl, ap, ◌∙◌, subst, inl, inr, ⊎_elim, arith, length-append}
 use Rattle.std.proofs.lemmas.Bool.{cases_Bool, not-true, or_cases, or_left, or_parts, or_right}
 use Rattle.std.specs.List.{list_any}
 use Rattle.catalog.specs.Catalog.{Catalog}
 use Rattle.catalog.specs.Shape.{Name}
-use Rattle.unfolding.specs.Lists.{Distinct, Mem}
+use Rattle.unfolding.specs.Lists.{Mem, Distinct}
 use Rattle.unfolding.proofs.Lists.{pigeon}
-use Rattle.life.specs.Calls.{ArrayIn, Declared, array_of, of_name, of_oid, requests, resolve}
+use Rattle.life.specs.Calls.{Declared, of_oid, of_name, array_of, resolve, requests, ArrayIn}
 use Rattle.life.specs.Life.{Agrees}
 use Rattle.life.specs.Lists.{fresh}
-use Rattle.life.specs.RoundOne.{FirstRound, OrderlyResolve, Question, ResolveEndsLaw, ResolveStopsLaw, RoundOneLaw, any_question, asked_in_full, asked_oid, asks_name, first_opened, for_array, for_arrays_alone, in_full, miscoded, refusable, resolve_walk, round_one}
+use Rattle.life.specs.RoundOne.{Question, in_full, for_array, asked_oid, asked_in_full, for_arrays_alone, miscoded, refusable, any_question, asks_name, round_one, first_opened, resolve_walk, OrderlyResolve, FirstRound, RoundOneLaw, ResolveEndsLaw, ResolveStopsLaw}
 use Rattle.life.specs.Rounds.{Anything}
 use Rattle.life.specs.Steps.{Book, SomeStands}
-use Rattle.life.specs.Stops.{Offence, earlier}
-use Rattle.life.specs.Walk.{Walked, and_then, answered, ask_each, ended, links_of, stopped, walk}
-use Rattle.life.proofs.Asking.{ask_reads, ask_stops, split_asked}
+use Rattle.life.specs.Stops.{earlier, Offence}
+use Rattle.life.specs.Walk.{answered, links_of, ask_each, Walked, ended, stopped, and_then, walk}
+use Rattle.life.proofs.Asking.{split_asked, ask_stops, ask_reads}
 use Rattle.life.proofs.Ends.{shows}
 use Rattle.life.proofs.Life.{agrees}
-use Rattle.life.proofs.Lists.{chosen_false, chosen_true, is_none_if, mem_left, mem_right, mem_split, none_not_some, not_both}
-use Rattle.life.proofs.Questions.{all_distinct, alone_apart, each_sane, element_read, mem_alone, mem_full, parts_length, round_full}
-use Rattle.life.proofs.Standing.{earlier_stands, layer_stands, stands_layer}
-use Rattle.life.proofs.Walk.{Ended, Result, ended_counts, ended_reads, last_once, walked}
+use Rattle.life.proofs.Lists.{not_both, is_none_if, none_not_some, chosen_true, chosen_false, mem_left, mem_right, mem_split}
+use Rattle.life.proofs.Questions.{mem_full, mem_alone, parts_length, each_sane, round_full, alone_apart, element_read, all_distinct}
+use Rattle.life.proofs.Standing.{layer_stands, stands_layer, earlier_stands}
+use Rattle.life.proofs.Walk.{Ended, Result, walked, ended_counts, ended_reads, last_once}
 
 module _ (c : Catalog) (b : Book) (agree : Agrees c b) where
   -- an array of e is declared that the book does not hold: something stands

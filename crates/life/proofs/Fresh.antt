@@ -1,15 +1,15 @@
 -- What `fresh_by` and `links_of` hold.
 -- Assumes nothing.
-use Rattle.std.proofs.Common.{◌++◌, ◌||◌, ◌∙◌, ◌∷◌, ◌≡◌, Bool, Decides, List, [], ap, append-nil, append_assoc, false, inl, inr, refl, subst, sym, true, ℕ, ⊎_elim}
+use Rattle.std.proofs.Common.{◌≡◌, ℕ, Bool, true, false, ◌||◌, List, [], ◌∷◌, ◌++◌, Decides, sym, refl, ap, ◌∙◌, subst, inl, inr, ⊎_elim, append_assoc, append-nil}
 use Rattle.std.proofs.lemmas.Bool.{cases_Bool, or_cases, or_parts}
 use Rattle.std.specs.List.{list_any}
 use Rattle.catalog.specs.Catalog.{Catalog}
 use Rattle.catalog.specs.Shape.{formed}
-use Rattle.unfolding.specs.Lists.{Distinct, Mem}
+use Rattle.unfolding.specs.Lists.{Mem, Distinct}
 use Rattle.unfolding.specs.Unfolding.{Link}
 use Rattle.life.specs.Lists.{fresh_by, push_all}
 use Rattle.life.specs.Walk.{links_in, links_of}
-use Rattle.life.proofs.Lists.{chosen_false, chosen_true, mem_left, mem_right, mem_split, mem_tells, not_both, split_option}
+use Rattle.life.proofs.Lists.{not_both, split_option, chosen_true, chosen_false, mem_tells, mem_left, mem_right, mem_split}
 
 module _ {A : Type 0} (same : A → A → Bool) (tells : (x y : A) → Decides (same x y) (x ≡ y)) (skip : A → Bool) where
   passes : (seen : List A) (x : A) (xs : List A) → (skip x || list_any (same x) seen) ≡ true → fresh_by same skip seen (x ∷ xs) ≡ fresh_by same skip seen xs

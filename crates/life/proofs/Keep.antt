@@ -1,24 +1,24 @@
 -- The book that a keeping step leaves is the law's. Assumes nothing.
-use Rattle.std.proofs.Common.{◌&&◌, ◌-◌, ◌||◌, ◌↔◌, ◌∙◌, ◌≡◌, ◌≤◌, ◌⊎◌, Bool, List, None, Option, Some, ap, arith, bytes_eq, cond, eq-eqb, false, inl, inr, is_some, nat_eq, option_and_then, refl, subst, sym, true, ℕ, ⊎_elim}
+use Rattle.std.proofs.Common.{◌≡◌, ℕ, ◌-◌, ◌≤◌, Bool, true, false, cond, ◌&&◌, ◌||◌, ◌⊎◌, ◌↔◌, List, is_some, nat_eq, Some, None, Option, option_and_then, bytes_eq, sym, refl, ap, ◌∙◌, subst, inl, inr, ⊎_elim, arith, eq-eqb}
 use Rattle.std.proofs.lemmas.Bool.{and_from, and_parts, or_cases, or_left, or_right}
 use Rattle.std.specs.Option.{option_or}
-use Rattle.catalog.specs.Catalog.{Catalog, Grows, Laws, spent}
-use Rattle.catalog.specs.Shape.{Head, Name}
+use Rattle.catalog.specs.Catalog.{Catalog, Laws, spent, Grows}
+use Rattle.catalog.specs.Shape.{Name, Head}
 use Rattle.unfolding.specs.Lists.{Mem}
-use Rattle.unfolding.specs.Unfolding.{Link, Tree, Trees, Unfolds, built, built_in, node}
-use Rattle.life.specs.Calls.{Call, Declares, DeclaresArray, array_link, requests}
-use Rattle.life.specs.Keep.{KeepingLaw, LeavingLaw, LivesOn, asks_column, call_event, declares, declares_array, if_named, if_settled, kept, pretty_in}
+use Rattle.unfolding.specs.Unfolding.{Tree, built, node, Trees, Link, built_in, Unfolds}
+use Rattle.life.specs.Calls.{Call, array_link, requests, Declares, DeclaresArray}
+use Rattle.life.specs.Keep.{if_named, pretty_in, if_settled, declares, declares_array, asks_column, kept, call_event, LivesOn, KeepingLaw, LeavingLaw}
 use Rattle.life.specs.Life.{Lived}
 use Rattle.life.specs.Lists.{is_in}
-use Rattle.life.specs.Rounds.{Descriptors, Known, StandsOnce, Unknown, found}
+use Rattle.life.specs.Rounds.{Descriptors, Known, Unknown, found, StandsOnce}
 use Rattle.life.specs.Settle.{settled}
-use Rattle.life.specs.Steps.{Book, Ending, Event, KeepsArrays, KeepsColumns, KeepsDescriptors, KeepsNames, LastOfCall, LedTo, PrettyName, Step, TellsTypeRounds, accepted, accepts, keeps_finds, refused, rounds_told}
-use Rattle.life.proofs.Known.{Right, found_held, found_right, found_tells}
-use Rattle.life.proofs.Life.{Fit, Met, Sound, fit, met, met_unless, pretty_leads}
-use Rattle.life.proofs.Lists.{bytes_same, in_mem, mem_in, not_both, not_some_none, same_bytes, same_some, split_option}
-use Rattle.life.proofs.Settle.{settled_complete, settled_ext, settled_only, settled_right}
-use Rattle.life.proofs.Standing.{link_stands, stands_led, stands_unknown}
-use Rattle.life.proofs.Tells.{asks_tells, declares_array_tells, declares_tells, if_some, if_true, or_adds, or_first, or_next, or_some}
+use Rattle.life.specs.Steps.{Book, PrettyName, Ending, accepted, refused, rounds_told, accepts, keeps_finds, TellsTypeRounds, Event, LastOfCall, LedTo, KeepsDescriptors, KeepsNames, KeepsArrays, KeepsColumns, Step}
+use Rattle.life.proofs.Known.{found_held, found_tells, Right, found_right}
+use Rattle.life.proofs.Life.{pretty_leads, Sound, Met, met_unless, met, Fit, fit}
+use Rattle.life.proofs.Lists.{not_both, not_some_none, same_some, split_option, bytes_same, same_bytes, in_mem, mem_in}
+use Rattle.life.proofs.Settle.{settled_right, settled_ext, settled_complete, settled_only}
+use Rattle.life.proofs.Standing.{link_stands, stands_unknown, stands_led}
+use Rattle.life.proofs.Tells.{or_some, or_first, or_next, or_adds, if_some, if_true, declares_tells, declares_array_tells, asks_tells}
 
 module _ (c : Catalog) (b : Descriptors) (rs : List ℕ) (sound : Sound c b) (reads : List ℕ) (are : (o : ℕ) → Mem o reads ↔ StandsOnce c b rs o) where
   read_unknown : (o : ℕ) → Mem o reads → Unknown b o

@@ -1,12 +1,12 @@
 -- What is known, and what is found of it.
 -- Assumes nothing.
-use Rattle.std.proofs.Common.{◌∙◌, ◌≡◌, ◌⊎◌, Decides, Some, ap, false, inl, inr, is_some, refl, subst, sym, true, ℕ, ⊎_elim}
+use Rattle.std.proofs.Common.{◌≡◌, ℕ, true, false, ◌⊎◌, is_some, Some, Decides, sym, refl, ap, ◌∙◌, subst, inl, inr, ⊎_elim}
 use Rattle.std.proofs.lemmas.Bool.{cases_Bool, cond-false, cond-true, or_cases, or_from, or_left, or_parts, or_right}
 use Rattle.catalog.specs.Catalog.{Catalog}
-use Rattle.unfolding.specs.Unfolding.{Tree, Unfolds, built, built_in}
+use Rattle.unfolding.specs.Unfolding.{Tree, built, built_in, Unfolds}
 use Rattle.life.specs.Rounds.{Descriptors, Known, Unknown, found}
 use Rattle.life.specs.Walk.{answered}
-use Rattle.life.proofs.Lists.{is_none_if, is_some_if, none_not_some, not_both, not_some_none, same_some, split_option}
+use Rattle.life.proofs.Lists.{not_both, not_some_none, same_some, split_option, is_none_if, is_some_if, none_not_some}
 
 pub cases_known : (b : Descriptors) (o : ℕ) → Known b o ⊎ Unknown b o
 cases_known b o = ⊎_elim (λ y. inl (inl y)) (λ n. ⊎_elim (λ z. inr (n, z)) (λ d. inl (inr d)) (split_option (b o))) (cases_Bool (built_in o))

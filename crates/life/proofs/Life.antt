@@ -1,19 +1,19 @@
 -- The law of a book's life.
 -- Assumes nothing.
-use Rattle.std.proofs.Common.{◌∙◌, ◌∷◌, ◌≡◌, ◌⊎◌, List, None, Option, Some, [], ap, false, inl, inr, is_some, refl, subst, sym, true, ℕ, ⊎_elim}
+use Rattle.std.proofs.Common.{◌≡◌, ℕ, true, false, ◌⊎◌, List, [], ◌∷◌, is_some, Some, None, Option, sym, refl, ap, ◌∙◌, subst, inl, inr, ⊎_elim}
 use Rattle.std.proofs.lemmas.Bool.{cases_Bool}
-use Rattle.catalog.specs.Catalog.{Catalog, CatalogRow, Grows, Laws}
-use Rattle.catalog.specs.Shape.{Head, Name, Shape, formed}
+use Rattle.catalog.specs.Catalog.{CatalogRow, Catalog, Laws, Grows}
+use Rattle.catalog.specs.Shape.{Name, Head, Shape, formed}
 use Rattle.unfolding.specs.Lists.{Mem}
-use Rattle.unfolding.specs.Unfolding.{HasUnfolding, Leads, Link, Tree, Trees, Unfolds, built, built_in, itself, node, onward}
-use Rattle.unfolding.proofs.Unfolding.{formed-grows, formed-row, link-has, shape-name, unfolds-grows}
+use Rattle.unfolding.specs.Unfolding.{Tree, built, node, Trees, Link, built_in, Unfolds, HasUnfolding, Leads, itself, onward}
+use Rattle.unfolding.proofs.Unfolding.{formed-row, formed-grows, unfolds-grows, link-has, shape-name}
 use Rattle.life.specs.Calls.{array_link}
-use Rattle.life.specs.Life.{Agrees, Counted, Earlier, LifetimeLaw, Lived}
-use Rattle.life.specs.Rounds.{Described, Descriptors, Known, StandsOnce, Unknown}
-use Rattle.life.specs.Steps.{Book, Event, KeepsDescriptors, LedTo, PrettyName, Step, answer, empty_book, keeps_finds, wanted}
-use Rattle.life.proofs.Known.{Right, cases_known, found_right, found_tells}
-use Rattle.life.proofs.Lists.{is_some_if, not_both, not_some_none, same_some}
-use Rattle.life.proofs.Standing.{link_stands, stands_led, stands_unknown}
+use Rattle.life.specs.Life.{Lived, Earlier, Counted, Agrees, LifetimeLaw}
+use Rattle.life.specs.Rounds.{Descriptors, Described, Known, Unknown, StandsOnce}
+use Rattle.life.specs.Steps.{Book, empty_book, answer, PrettyName, keeps_finds, Event, wanted, LedTo, KeepsDescriptors, Step}
+use Rattle.life.proofs.Known.{cases_known, found_tells, Right, found_right}
+use Rattle.life.proofs.Lists.{not_both, not_some_none, same_some, is_some_if}
+use Rattle.life.proofs.Standing.{link_stands, stands_unknown, stands_led}
 
 pub pretty_leads : (c : Catalog) → Laws c → (o : ℕ) (n : Name) (h : Head) (ts : Trees) → Unfolds c o (node o n h ts) → c.named n ≡ Some o
 pretty_leads c laws o n h ts u =

@@ -1,12 +1,12 @@
 -- Tests that agree with statements: membership, absence, and the first place.
 -- Assumes nothing.
-use Rattle.std.proofs.Common.{◌++◌, ◌↔◌, ◌∙◌, ◌∷◌, ◌≡◌, ◌⊎◌, Bool, Decides, List, None, Option, Some, [], ap, bytes_eq, false, inl, inr, is_some, nat_eq, refl, subst, suc, sym, true, ℕ, ⊎_elim}
+use Rattle.std.proofs.Common.{◌≡◌, ℕ, suc, Bool, true, false, ◌⊎◌, ◌↔◌, List, [], ◌∷◌, ◌++◌, is_some, nat_eq, Some, None, Decides, Option, bytes_eq, sym, refl, ap, ◌∙◌, subst, inl, inr, ⊎_elim}
 use Rattle.std.proofs.lemmas.Bool.{cases_Bool}
 use Rattle.std.proofs.lemmas.Bool.Decides.{Decides-eqb, Decides-or}
 use Rattle.std.proofs.lemmas.Slice.Eq.{bytes_eq-Decides}
 use Rattle.std.specs.List.{list_any}
-use Rattle.unfolding.specs.Lists.{Distinct, Mem}
-use Rattle.life.specs.Lists.{FirstAt, first_place, is_in}
+use Rattle.unfolding.specs.Lists.{Mem, Distinct}
+use Rattle.life.specs.Lists.{is_in, first_place, FirstAt}
 
 pub not_both : {b : Bool} → b ≡ true → b ≡ false → ⊥
 not_both {b} p q = absurd cc

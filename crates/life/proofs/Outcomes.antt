@@ -1,20 +1,20 @@
 -- What computed calls share: refusals that keep nothing are steps, and refusals 9 and 10 have the first place.
 -- Assumes nothing.
-use Rattle.std.proofs.Common.{◌&&◌, ◌↔◌, ◌∙◌, ◌≡◌, ◌≤◌, ◌⊎◌, Bool, List, None, Option, Some, ap, false, inl, inr, is_some, not, refl, subst, true, ℕ, ⊎_elim}
+use Rattle.std.proofs.Common.{◌≡◌, ℕ, ◌≤◌, Bool, true, false, not, ◌&&◌, ◌⊎◌, ◌↔◌, List, is_some, Some, None, Option, refl, ap, ◌∙◌, subst, inl, inr, ⊎_elim}
 use Rattle.std.proofs.lemmas.Bool.{and_parts, not-true}
 use Rattle.catalog.specs.Catalog.{Catalog, Laws}
 use Rattle.unfolding.specs.Lists.{Mem}
 use Rattle.life.specs.Calls.{Call}
 use Rattle.life.specs.Keep.{call_event}
 use Rattle.life.specs.Lists.{first_place}
-use Rattle.life.specs.Outcomes.{Fits, Outcome, RefusedAtFirst, Unresolved, if_fits, refusal, unresolved}
-use Rattle.life.specs.Rounds.{Descriptors, LastRound, StandsOnce, found}
+use Rattle.life.specs.Outcomes.{Outcome, refusal, if_fits, unresolved, Unresolved, Fits, RefusedAtFirst}
+use Rattle.life.specs.Rounds.{Descriptors, found, StandsOnce, LastRound}
 use Rattle.life.specs.Settle.{settled}
-use Rattle.life.specs.Steps.{Book, Ending, Step, keeps_finds, refused}
+use Rattle.life.specs.Steps.{Book, Ending, refused, keeps_finds, Step}
 use Rattle.life.specs.Stops.{Offence}
-use Rattle.life.proofs.Keep.{leaving_step, request_found}
+use Rattle.life.proofs.Keep.{request_found, leaving_step}
 use Rattle.life.proofs.Life.{Sound}
-use Rattle.life.proofs.Lists.{Agree, is_some_if, not_both, place_first, place_some, split_option}
+use Rattle.life.proofs.Lists.{not_both, split_option, is_some_if, Agree, place_first, place_some}
 
 -- the numbers of a refusal that keeps nothing
 abbrev pub Bare : ℕ → Type 0

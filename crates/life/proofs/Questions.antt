@@ -1,24 +1,24 @@
 -- What the questions of round 1 hold: those in full are the requests, those for arrays alone known elements without one.
 -- Assumes nothing.
-use Rattle.std.proofs.Common.{◌++◌, ◌+◌, ◌||◌, ◌↔◌, ◌∙◌, ◌∷◌, ◌≡◌, ◌⊎◌, Bool, List, None, Option, Some, [], ap, arith, false, inl, inr, is_some, length, nat_eq, not, option_to_list, refl, subst, sym, true, ℕ, ⊎_elim}
+use Rattle.std.proofs.Common.{◌≡◌, ℕ, ◌+◌, Bool, true, false, not, ◌||◌, ◌⊎◌, ◌↔◌, List, [], ◌∷◌, ◌++◌, length, is_some, nat_eq, Some, None, Option, option_to_list, sym, refl, ap, ◌∙◌, subst, inl, inr, ⊎_elim, arith}
 use Rattle.std.proofs.lemmas.Bool.{cases_Bool, not-false, or_from, or_parts}
 use Rattle.std.proofs.lemmas.Bool.Decides.{Decides-eqb}
 use Rattle.catalog.specs.Catalog.{Catalog, Each}
 use Rattle.catalog.specs.Shape.{Name}
-use Rattle.unfolding.specs.Lists.{Distinct, Mem}
-use Rattle.life.specs.Calls.{ArrayIn, Declared, all_requests, array_link, array_of, entry_requests, of_name, of_oid, requests, resolve, with_array}
+use Rattle.unfolding.specs.Lists.{Mem, Distinct}
+use Rattle.life.specs.Calls.{Declared, of_oid, of_name, array_of, resolve, array_link, with_array, entry_requests, all_requests, requests, ArrayIn}
 use Rattle.life.specs.Life.{Agrees}
-use Rattle.life.specs.Lists.{fresh, is_in}
-use Rattle.life.specs.RoundOne.{Question, ReadApart, all_asks, asked_in_full, asked_once, element_asks, entry_asks, for_array, for_arrays_alone, in_full, in_full_if, lead, link, miscoded, refusable, round_one, spared}
+use Rattle.life.specs.Lists.{is_in, fresh}
+use Rattle.life.specs.RoundOne.{Question, in_full, for_array, asked_in_full, for_arrays_alone, miscoded, refusable, lead, link, in_full_if, element_asks, entry_asks, all_asks, spared, asked_once, round_one, ReadApart}
 use Rattle.life.specs.Rounds.{Known}
 use Rattle.life.specs.Steps.{Book}
-use Rattle.life.specs.Stops.{earlier, standing}
+use Rattle.life.specs.Stops.{standing, earlier}
 use Rattle.life.specs.Walk.{answered, malformed}
 use Rattle.life.proofs.Asking.{each_mem}
-use Rattle.life.proofs.Fresh.{fresh_distinct, fresh_has, has_fresh}
-use Rattle.life.proofs.Known.{answered_tells, known_not}
-use Rattle.life.proofs.Lists.{distinct_append, is_none_if, mem_left, mem_right, mem_split, none_not_some, split_option}
-use Rattle.life.proofs.Standing.{earlier_distinct, earlier_stands, stands_unknown}
+use Rattle.life.proofs.Fresh.{fresh_has, has_fresh, fresh_distinct}
+use Rattle.life.proofs.Known.{known_not, answered_tells}
+use Rattle.life.proofs.Lists.{split_option, is_none_if, none_not_some, mem_left, mem_right, mem_split, distinct_append}
+use Rattle.life.proofs.Standing.{earlier_stands, stands_unknown, earlier_distinct}
 use Rattle.life.proofs.Tells.{or_first, or_next}
 
 pub full_mem : (o : ℕ) (qs : List Question) → Mem o (asked_in_full qs) → Mem (in_full o) qs

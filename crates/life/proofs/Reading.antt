@@ -1,17 +1,17 @@
 -- The loop of round 1 comes to its lists.
 -- Assumes nothing.
-use Rattle.std.proofs.Common.{◌++◌, ◌||◌, ◌∙◌, ◌∷◌, ◌≡◌, Bool, List, [], ap, append-nil, append_assoc, false, nat_eq, refl, suc, sym, true, zero, ℕ, ⊎_elim}
+use Rattle.std.proofs.Common.{◌≡◌, ℕ, zero, suc, Bool, true, false, ◌||◌, List, [], ◌∷◌, ◌++◌, nat_eq, sym, refl, ap, ◌∙◌, ⊎_elim, append_assoc, append-nil}
 use Rattle.std.proofs.lemmas.Bool.{cases_Bool}
 use Rattle.std.proofs.lemmas.Bool.Decides.{Decides-eqb}
 use Rattle.catalog.specs.Catalog.{Catalog}
 use Rattle.life.specs.Calls.{Declared}
 use Rattle.life.specs.Lists.{is_in}
-use Rattle.life.specs.Reading.{Read, ReadingLaw, halted, read_all, read_entries, read_question, read_row, reading, summed, then_read}
-use Rattle.life.specs.RoundOne.{Question, all_asks, asked_in_full, asked_oid, asked_once, entry_asks, for_array, for_arrays_alone, in_full, miscoded, refusable, spared}
+use Rattle.life.specs.Reading.{Read, reading, halted, then_read, read_row, read_question, read_all, read_entries, summed, ReadingLaw}
+use Rattle.life.specs.RoundOne.{Question, in_full, for_array, asked_oid, asked_in_full, for_arrays_alone, miscoded, refusable, entry_asks, all_asks, spared, asked_once}
 use Rattle.life.specs.Steps.{Book}
-use Rattle.life.specs.Walk.{Asked, answered, ask_each, malformed, stop}
+use Rattle.life.specs.Walk.{answered, malformed, Asked, stop, ask_each}
 use Rattle.life.proofs.Fresh.{mem_push}
-use Rattle.life.proofs.Lists.{chosen_false, chosen_true}
+use Rattle.life.proofs.Lists.{chosen_true, chosen_false}
 
 module _ (c : Catalog) (b : Book) where
   abbrev skip : ℕ → Bool

@@ -1,31 +1,31 @@
 -- A computed Resolve is a step of any life, and writes the OIDs of its entries; refusals 9 and 10 have their places.
 -- Assumes nothing.
-use Rattle.std.proofs.Common.{◌&&◌, ◌++◌, ◌||◌, ◌↔◌, ◌∙◌, ◌∷◌, ◌≡◌, Bool, List, None, Option, Some, [], ap, arith, cond, false, inl, inr, is_some, length, not, option_to_list, refl, subst, suc, sym, true, ℕ, ⊎_elim}
+use Rattle.std.proofs.Common.{◌≡◌, ℕ, suc, Bool, true, false, cond, not, ◌&&◌, ◌||◌, ◌↔◌, List, [], ◌∷◌, ◌++◌, length, is_some, Some, None, Option, option_to_list, sym, refl, ap, ◌∙◌, subst, inl, inr, ⊎_elim, arith}
 use Rattle.std.proofs.lemmas.Bool.{not-true, or_cases, or_left, or_right}
 use Rattle.std.specs.List.{list_any}
 use Rattle.std.specs.Option.{option_or}
 use Rattle.catalog.specs.Catalog.{Catalog, Laws}
 use Rattle.catalog.specs.Shape.{Name}
 use Rattle.unfolding.specs.Lists.{Mem}
-use Rattle.life.specs.Calls.{Declared, all_requests, array_link, array_of, entry_requests, of_name, of_oid, requests, resolve}
-use Rattle.life.specs.Keep.{array_in, call_event, kept, kept_names}
-use Rattle.life.specs.Life.{Agrees, Lived}
-use Rattle.life.specs.Lists.{first_place, is_in}
-use Rattle.life.specs.Outcomes.{Fits, Outcome, RefusedAtFirst, concluded, if_fits, unresolved}
-use Rattle.life.specs.Resolve.{EntryLaw, EntryUnresolved, HasNoOid, HasOid, ResolveLaw, ResolveNineLaw, Resolves, TenLaw, WrittenLaw, closing_resolve, entry_oid, lacks, link_from, offends, oids, resolve_ending, resolve_left, resolve_outcome, resolve_settled, resolved_book}
-use Rattle.life.specs.RoundOne.{asked_in_full, entry_asks, for_arrays_alone, lead, resolve_walk, round_one}
+use Rattle.life.specs.Calls.{Declared, of_oid, of_name, array_of, resolve, array_link, entry_requests, all_requests, requests}
+use Rattle.life.specs.Keep.{array_in, kept_names, kept, call_event}
+use Rattle.life.specs.Life.{Lived, Agrees}
+use Rattle.life.specs.Lists.{is_in, first_place}
+use Rattle.life.specs.Outcomes.{Outcome, if_fits, concluded, unresolved, Fits, RefusedAtFirst}
+use Rattle.life.specs.Resolve.{link_from, entry_oid, oids, offends, lacks, resolved_book, closing_resolve, resolve_ending, resolve_left, resolve_settled, resolve_outcome, ResolveLaw, HasOid, HasNoOid, Resolves, EntryLaw, WrittenLaw, EntryUnresolved, ResolveNineLaw, TenLaw}
+use Rattle.life.specs.RoundOne.{asked_in_full, for_arrays_alone, lead, entry_asks, round_one, resolve_walk}
 use Rattle.life.specs.Rounds.{Descriptors, StandsOnce}
 use Rattle.life.specs.Settle.{settled}
-use Rattle.life.specs.Steps.{Book, Ending, Event, SomeStands, Step, TellsTypeRounds, accepts, keeps_finds, refused, rounds_told}
+use Rattle.life.specs.Steps.{Book, Ending, refused, rounds_told, accepts, keeps_finds, TellsTypeRounds, Event, SomeStands, Step}
 use Rattle.life.specs.Walk.{Walked, ended, stopped}
-use Rattle.life.proofs.First.{Come, Stop, resolve_come}
-use Rattle.life.proofs.Keep.{keeping_step, lives_on, settled_leads}
-use Rattle.life.proofs.Life.{agrees, fit}
-use Rattle.life.proofs.Lists.{in_mem, mem_in, mem_left, mem_right, not_both, not_some_none, place_no, place_some, place_yes, same_truth, split_option}
-use Rattle.life.proofs.Outcomes.{Bare, Next, fits_so, fitted_next, offence_bare, refusal_next, refused_first, unresolved_tells}
-use Rattle.life.proofs.Questions.{alone_apart, element_read, entry_full, lead_is, link_is, round_full}
+use Rattle.life.proofs.First.{Stop, Come, resolve_come}
+use Rattle.life.proofs.Keep.{settled_leads, keeping_step, lives_on}
+use Rattle.life.proofs.Life.{fit, agrees}
+use Rattle.life.proofs.Lists.{not_both, not_some_none, split_option, same_truth, in_mem, mem_in, mem_left, mem_right, place_yes, place_no, place_some}
+use Rattle.life.proofs.Outcomes.{Bare, offence_bare, Next, refusal_next, fitted_next, fits_so, refused_first, unresolved_tells}
+use Rattle.life.proofs.Questions.{lead_is, link_is, entry_full, round_full, alone_apart, element_read}
 use Rattle.life.proofs.Standing.{layer_stands}
-use Rattle.life.proofs.Tells.{array_tells, or_first}
+use Rattle.life.proofs.Tells.{or_first, array_tells}
 use Rattle.life.proofs.Walk.{Ended, ended_counts, ended_reads}
 
 module _ (c : Catalog) (b : Book) (agree : Agrees c b) (ds : List Declared) (n : ℕ) (reads : List ℕ)

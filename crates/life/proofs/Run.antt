@@ -1,31 +1,31 @@
 -- Lives of computed calls are lives.
 -- Assumes nothing.
-use Rattle.std.proofs.Common.{◌-◌, ◌∙◌, ◌∷◌, ◌≡◌, ◌≤◌, ◌⊎◌, Bool, List, None, Option, Some, [], ap, arith, false, inl, inr, length, refl, subst, suc, sym, true, zero, ℕ, ⊎_elim}
+use Rattle.std.proofs.Common.{◌≡◌, ℕ, zero, suc, ◌-◌, ◌≤◌, Bool, true, false, ◌⊎◌, List, [], ◌∷◌, length, Some, None, Option, sym, refl, ap, ◌∙◌, subst, inl, inr, ⊎_elim, arith}
 use Rattle.std.specs.Option.{option_or}
 use Rattle.catalog.specs.Catalog.{Catalog, Laws, spent}
 use Rattle.catalog.specs.Shape.{Name}
 use Rattle.keys.specs.Senses.{Pair}
 use Rattle.unfolding.specs.Unfolding.{node}
-use Rattle.life.specs.Bind.{bind_outcome, bind_settled, column_questions, column_round, columns_book, types_book, types_settled}
-use Rattle.life.specs.Calls.{Binding, Call, Declared, bind, describe, fill, requests, resolve}
-use Rattle.life.specs.Fill.{closing, outcome, settled_outcome}
-use Rattle.life.specs.Keep.{call_event, kept, pretty_in}
-use Rattle.life.specs.Life.{Agrees, Lived}
+use Rattle.life.specs.Bind.{column_questions, types_book, columns_book, column_round, types_settled, bind_settled, bind_outcome}
+use Rattle.life.specs.Calls.{Declared, Binding, Call, fill, resolve, bind, describe, requests}
+use Rattle.life.specs.Fill.{closing, settled_outcome, outcome}
+use Rattle.life.specs.Keep.{pretty_in, kept, call_event}
+use Rattle.life.specs.Life.{Lived, Agrees}
 use Rattle.life.specs.Lists.{first_place}
-use Rattle.life.specs.Outcomes.{Outcome, TypeRounds, concluded, fitted, if_fits, unresolved}
-use Rattle.life.specs.Resolve.{closing_resolve, lacks, offends, resolve_left, resolve_settled}
-use Rattle.life.specs.RoundOne.{asked_oid, for_arrays_alone, refusable, resolve_walk, round_one}
-use Rattle.life.specs.Rounds.{Descriptors, LastRound, Stands}
-use Rattle.life.specs.Run.{CountedRun, Done, PerformLaw, Performed, RoundsLaw, RunLaw, TurnedAway, perform}
+use Rattle.life.specs.Outcomes.{Outcome, fitted, if_fits, concluded, unresolved, TypeRounds}
+use Rattle.life.specs.Resolve.{offends, lacks, closing_resolve, resolve_left, resolve_settled}
+use Rattle.life.specs.RoundOne.{asked_oid, for_arrays_alone, refusable, round_one, resolve_walk}
+use Rattle.life.specs.Rounds.{Descriptors, Stands, LastRound}
+use Rattle.life.specs.Run.{TurnedAway, perform, Done, Performed, CountedRun, RoundsLaw, PerformLaw, RunLaw}
 use Rattle.life.specs.Settle.{settled}
-use Rattle.life.specs.Steps.{Book, Ending, Event, LastOfCall, SomeStands, Step, accepted, accepts, keeps_finds, refused, rounds_told}
-use Rattle.life.specs.Stops.{Offence, StopsAt, standing}
-use Rattle.life.specs.Walk.{Walked, ended, malformed, stopped, walk_from}
+use Rattle.life.specs.Steps.{Book, Ending, accepted, refused, rounds_told, accepts, keeps_finds, Event, SomeStands, LastOfCall, Step}
+use Rattle.life.specs.Stops.{standing, StopsAt, Offence}
+use Rattle.life.specs.Walk.{malformed, Walked, ended, stopped, walk_from}
 use Rattle.life.proofs.Bind.{bind_step}
 use Rattle.life.proofs.Fill.{quiet_step}
-use Rattle.life.proofs.First.{Come, Stop, resolve_come}
-use Rattle.life.proofs.Keep.{keeping_step, leaving_step, pretty_some}
-use Rattle.life.proofs.Life.{agrees, fit, lifetime_law}
+use Rattle.life.proofs.First.{Stop, Come, resolve_come}
+use Rattle.life.proofs.Keep.{pretty_some, keeping_step, leaving_step}
+use Rattle.life.proofs.Life.{fit, agrees, lifetime_law}
 use Rattle.life.proofs.Lists.{not_both, not_some_none, split_option}
 use Rattle.life.proofs.Resolve.{resolve_step}
 use Rattle.life.proofs.Tells.{or_first, or_next}

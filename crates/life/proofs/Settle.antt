@@ -1,15 +1,15 @@
 -- The passes settle exactly the OIDs read that have an unfolding. Assumes nothing.
-use Rattle.std.proofs.Common.{◌+◌, ◌<◌, ◌∙◌, ◌∷◌, ◌≡◌, ◌≤◌, ◌⊎◌, List, None, Option, Some, [], ap, arith, bytes_eq, cond, eq-eqb, eqb-true, false, inl, inr, is_some, length, nat_eq, option_and_then, option_map, refl, subst, suc, sym, zero, ℕ, ⊎_elim}
+use Rattle.std.proofs.Common.{◌≡◌, ℕ, zero, suc, ◌+◌, ◌<◌, ◌≤◌, false, cond, ◌⊎◌, List, [], ◌∷◌, length, is_some, nat_eq, Some, None, Option, option_map, option_and_then, bytes_eq, sym, refl, ap, ◌∙◌, subst, inl, inr, ⊎_elim, arith, eq-eqb, eqb-true}
 use Rattle.std.proofs.lemmas.Bool.{cases_Bool}
 use Rattle.catalog.specs.Catalog.{Catalog}
 use Rattle.catalog.specs.Shape.{Shape, formed}
 use Rattle.unfolding.specs.Lists.{Mem}
-use Rattle.unfolding.specs.Unfolding.{Link, Tree, Trees, UnfoldAll, Unfolds, built, built_in, more, node, none}
+use Rattle.unfolding.specs.Unfolding.{Tree, built, node, Trees, none, more, Link, built_in, Unfolds, UnfoldAll}
 use Rattle.unfolding.proofs.Unfolding.{unique}
-use Rattle.life.specs.Rounds.{Described, Descriptors, Known, found}
-use Rattle.life.specs.Settle.{PassesLaw, Still, gather, joined, made, made_of, pass, passes, put, put_if, settle_one, settled}
-use Rattle.life.proofs.Known.{Right, found_built, found_held, found_right, known_not}
-use Rattle.life.proofs.Lists.{chosen_false, chosen_true, none_not_some, not_both, not_some_none, split_option}
+use Rattle.life.specs.Rounds.{Descriptors, Described, Known, found}
+use Rattle.life.specs.Settle.{put, put_if, joined, gather, made_of, made, settle_one, pass, passes, settled, Still, PassesLaw}
+use Rattle.life.proofs.Known.{known_not, found_built, found_held, Right, found_right}
+use Rattle.life.proofs.Lists.{not_both, not_some_none, split_option, none_not_some, chosen_true, chosen_false}
 
 -- all that b holds d holds too
 abbrev pub Ext : Descriptors → Descriptors → Type 0

@@ -1,16 +1,16 @@
 -- The rounds as lists. Assumes nothing.
-use Rattle.std.proofs.Common.{◌++◌, ◌⊎◌, List, [], inl, inr, nat_eq, refl, suc, zero, ℕ, ⊎_elim}
+use Rattle.std.proofs.Common.{ℕ, zero, suc, ◌⊎◌, List, [], ◌++◌, nat_eq, refl, inl, inr, ⊎_elim}
 use Rattle.std.proofs.lemmas.Bool.Decides.{Decides-eqb}
 use Rattle.catalog.specs.Catalog.{Catalog}
-use Rattle.unfolding.specs.Lists.{Distinct, Mem}
+use Rattle.unfolding.specs.Lists.{Mem, Distinct}
 use Rattle.unfolding.specs.Unfolding.{Link, itself, onward}
-use Rattle.life.specs.Rounds.{Before, Descriptors, Layer, Stands, StandsOnce, Unknown}
+use Rattle.life.specs.Rounds.{Descriptors, Unknown, Layer, Before, Stands, StandsOnce}
 use Rattle.life.specs.Steps.{LedTo}
-use Rattle.life.specs.Stops.{QueueLaw, StandingLaw, earlier, standing}
+use Rattle.life.specs.Stops.{standing, earlier, StandingLaw, QueueLaw}
 use Rattle.life.specs.Walk.{answered, links_of}
-use Rattle.life.proofs.Fresh.{fresh_distinct, fresh_has, has_fresh, have_links, links_have, pushed}
+use Rattle.life.proofs.Fresh.{fresh_has, has_fresh, fresh_distinct, pushed, links_have, have_links}
 use Rattle.life.proofs.Known.{unanswered, unknown_unanswered}
-use Rattle.life.proofs.Lists.{cases_mem, distinct_append, mem_left, mem_right, mem_split}
+use Rattle.life.proofs.Lists.{cases_mem, mem_left, mem_right, mem_split, distinct_append}
 
 module _ (c : Catalog) (b : Descriptors) (rs : List ℕ) where
   abbrev layer : ℕ → List ℕ

@@ -1,6 +1,6 @@
 -- The tests of a call agree with the statements, and what an option that falls back on another is.
 -- Assumes nothing.
-use Rattle.std.proofs.Common.{◌&&◌, ◌↔◌, ◌∙◌, ◌∷◌, ◌≡◌, ◌⊎◌, Bool, Decides, List, None, Option, Some, [], ap, bytes_eq, cond, false, inl, inr, nat_eq, option_to_list, refl, subst, sym, true, ℕ, ℤ, ⊎_elim}
+use Rattle.std.proofs.Common.{◌≡◌, ℕ, Bool, true, false, cond, ◌&&◌, ◌⊎◌, ◌↔◌, List, [], ◌∷◌, ℤ, nat_eq, Some, None, Decides, Option, option_to_list, bytes_eq, sym, refl, ap, ◌∙◌, subst, inl, inr, ⊎_elim}
 use Rattle.std.proofs.lemmas.Bool.{and_from, and_parts, cond-true}
 use Rattle.std.proofs.lemmas.Bool.Decides.{Decides-eqb, Decides-or}
 use Rattle.std.proofs.lemmas.Option.{some_pair_parts}
@@ -11,9 +11,9 @@ use Rattle.catalog.specs.Shape.{Name}
 use Rattle.keys.specs.Kinds.{same-pair}
 use Rattle.keys.specs.Senses.{Pair, same_pair}
 use Rattle.unfolding.specs.Lists.{Mem}
-use Rattle.life.specs.Calls.{ArrayIn, AsksColumn, Call, Declared, Declares, DeclaresArray, Field, FieldFrom, NamedIn, array_of, bind, describe, fill, of_name, of_oid, resolve}
-use Rattle.life.specs.Keep.{array_in, asks_column, both, declares, declares_array, is_just, is_source, named_in, source, sources}
-use Rattle.life.proofs.Lists.{mem_left, mem_right, mem_split, mem_tells, never, not_some_none, split_option}
+use Rattle.life.specs.Calls.{Declared, of_oid, of_name, array_of, Field, Call, fill, resolve, bind, describe, NamedIn, Declares, ArrayIn, DeclaresArray, FieldFrom, AsksColumn}
+use Rattle.life.specs.Keep.{is_just, named_in, declares, array_in, declares_array, both, source, sources, is_source, asks_column}
+use Rattle.life.proofs.Lists.{not_some_none, split_option, never, mem_tells, mem_left, mem_right, mem_split}
 
 pub or_some : {A : Type 0} (x y : Option A) (a : A) → option_or x y ≡ Some a → (x ≡ Some a) ⊎ ((x ≡ None) × (y ≡ Some a))
 or_some None y a e = inr (refl, e)

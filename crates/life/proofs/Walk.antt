@@ -1,16 +1,16 @@
 -- The walk tells the last round in which anything stands and reads what stands, or stops at its first offence.
 -- Assumes nothing.
-use Rattle.std.proofs.Common.{◌++◌, ◌+◌, ◌-◌, ◌<◌, ◌↔◌, ◌∙◌, ◌∷◌, ◌≡◌, ◌≤◌, ◌⊎◌, Bool, List, [], ap, arith, false, inl, inr, length, length-append, refl, subst, suc, sym, zero, ℕ, ⊎_elim}
+use Rattle.std.proofs.Common.{◌≡◌, ℕ, zero, suc, ◌+◌, ◌-◌, ◌<◌, ◌≤◌, Bool, false, ◌⊎◌, ◌↔◌, List, [], ◌∷◌, ◌++◌, length, sym, refl, ap, ◌∙◌, subst, inl, inr, ⊎_elim, arith, length-append}
 use Rattle.std.proofs.lemmas.Bool.{cases_lt}
 use Rattle.catalog.specs.Catalog.{Catalog}
 use Rattle.unfolding.specs.Lists.{Mem}
 use Rattle.life.specs.Lists.{fresh}
-use Rattle.life.specs.Rounds.{Anything, Descriptors, LastRound, Layer, Stands, StandsOnce}
-use Rattle.life.specs.Stops.{Needed, Offence, Sane, StopsAt, Through, earlier, standing}
-use Rattle.life.specs.Walk.{Walked, and_then, answered, ask, ended, links_of, malformed, stopped, walk, walk_from}
-use Rattle.life.proofs.Asking.{ask_reads, ask_stops, each_mem, split_asked}
+use Rattle.life.specs.Rounds.{Descriptors, Layer, Stands, StandsOnce, Anything, LastRound}
+use Rattle.life.specs.Stops.{standing, earlier, Sane, StopsAt, Through, Needed, Offence}
+use Rattle.life.specs.Walk.{answered, links_of, malformed, ask, Walked, ended, stopped, and_then, walk, walk_from}
+use Rattle.life.proofs.Asking.{split_asked, each_mem, ask_stops, ask_reads}
 use Rattle.life.proofs.Lists.{mem_left, mem_right, mem_split}
-use Rattle.life.proofs.Standing.{earlier_stands, layer_stands, stands_layer}
+use Rattle.life.proofs.Standing.{layer_stands, stands_layer, earlier_stands}
 
 -- `others`: whether anything but OIDs, as a name, stands in round 1; `extra`: how many rows were read in round 1 for their typarray
 -- alone

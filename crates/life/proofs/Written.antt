@@ -1,16 +1,16 @@
 -- What an accepted Bind writes is right.
 -- Assumes nothing.
-use Rattle.std.proofs.Common.{◌∙◌, ◌≡◌, ◌⊎◌, None, Option, Some, [], ap, inl, inr, is_some, refl, subst, sym, ℕ, ℤ, ⊎_elim}
+use Rattle.std.proofs.Common.{◌≡◌, ℕ, ◌⊎◌, [], ℤ, is_some, Some, None, Option, sym, refl, ap, ◌∙◌, subst, inl, inr, ⊎_elim}
 use Rattle.catalog.specs.Catalog.{CatalogColumn}
 use Rattle.catalog.specs.Shape.{Name}
 use Rattle.unfolding.specs.Unfolding.{Unfolds}
 use Rattle.unfolding.proofs.Unfolding.{unique}
 use Rattle.life.specs.Keep.{both, source}
 use Rattle.life.specs.Rounds.{found}
-use Rattle.life.specs.Written.{ExpressionLaw, Origin, OriginLaw, TypesLaw, declared_as, expression, origin_at, origin_found, settled_as, table, unknown, write_type}
-use Rattle.life.proofs.Known.{found_right, found_tells}
+use Rattle.life.specs.Written.{settled_as, declared_as, Origin, expression, unknown, table, write_type, origin_found, origin_at, OriginLaw, ExpressionLaw, TypesLaw}
+use Rattle.life.proofs.Known.{found_tells, found_right}
 use Rattle.life.proofs.Life.{fit}
-use Rattle.life.proofs.Lists.{is_some_if, split_option}
+use Rattle.life.proofs.Lists.{split_option, is_some_if}
 use Rattle.life.proofs.Tells.{source_is}
 
 table_found : (x : Option CatalogColumn) (t n : Name) → origin_found x ≡ table t n → (k : CatalogColumn) × (x ≡ Some k) × (k.table ≡ t) × (k.column ≡ n)

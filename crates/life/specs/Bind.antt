@@ -1,19 +1,19 @@
 -- A whole Bind, computed: the walk over its types, the passes, refusals 8 and 9, the column round with 5 and 8 of layer columns, and
 -- what is written.
 -- Assumes nothing.
-use Rattle.std.specs.Prelude.{◌&&◌, ◌-◌, ◌↔◌, ◌∷◌, ◌≡◌, ◌⊎◌, List, None, Option, Some, [], false, if◌then◌else◌, is_some, suc, true, zero, ℕ, ℤ}
+use Rattle.std.specs.Prelude.{◌≡◌, ℕ, zero, suc, ◌-◌, true, false, ◌&&◌, ◌⊎◌, ◌↔◌, List, [], ◌∷◌, ℤ, is_some, if◌then◌else◌, Some, None, Option}
 use Rattle.std.specs.List.{list_any}
 use Rattle.std.specs.Option.{option_or}
 use Rattle.catalog.specs.Catalog.{Catalog, Laws}
 use Rattle.keys.specs.Senses.{Pair, same_pair}
-use Rattle.unfolding.specs.Lists.{Distinct, Mem}
-use Rattle.life.specs.Calls.{AsksColumn, Binding, Call, bind, requests}
-use Rattle.life.specs.Keep.{LivesOn, kept, sources}
+use Rattle.unfolding.specs.Lists.{Mem, Distinct}
+use Rattle.life.specs.Calls.{Binding, Call, bind, requests, AsksColumn}
+use Rattle.life.specs.Keep.{sources, kept, LivesOn}
 use Rattle.life.specs.Life.{Lived}
-use Rattle.life.specs.Lists.{first_place, fresh_by}
-use Rattle.life.specs.Outcomes.{Fits, Outcome, RefusedAtFirst, Unresolved, concluded, fitted, if_fits, unresolved}
+use Rattle.life.specs.Lists.{fresh_by, first_place}
+use Rattle.life.specs.Outcomes.{Outcome, fitted, if_fits, concluded, unresolved, Unresolved, Fits, RefusedAtFirst}
 use Rattle.life.specs.Settle.{settled}
-use Rattle.life.specs.Steps.{Book, Ending, Event, KeepsColumns, accepted, accepts, refused}
+use Rattle.life.specs.Steps.{Book, Ending, accepted, refused, accepts, Event, KeepsColumns}
 use Rattle.life.specs.Walk.{ended, walk_from}
 
 -- the columns to ask for: those that a field comes from and the book does not hold, each once, in order

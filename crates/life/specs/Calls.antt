@@ -1,7 +1,7 @@
 -- The calls that a book meets, and what each requests.
 -- Assumes nothing.
-use Rattle.std.specs.Prelude.{◌++◌, ◌∷◌, ◌≡◌, ◌⊎◌, Bool, List, None, Option, Some, [], flat_map, if◌then◌else◌, map, option_to_list, true, ℕ, ℤ}
-use Rattle.catalog.specs.Catalog.{Catalog, CatalogRow}
+use Rattle.std.specs.Prelude.{◌≡◌, ℕ, Bool, true, ◌⊎◌, List, [], ◌∷◌, ◌++◌, map, ℤ, if◌then◌else◌, Some, None, flat_map, Option, option_to_list}
+use Rattle.catalog.specs.Catalog.{CatalogRow, Catalog}
 use Rattle.catalog.specs.Shape.{Name}
 use Rattle.unfolding.specs.Lists.{Mem}
 

@@ -1,14 +1,14 @@
 -- A whole Fill, computed: the walk, the passes, and refusals 8 and 9.
 -- Assumes nothing.
-use Rattle.std.specs.Prelude.{◌≡◌, List, None, Option, Some, false, ℕ}
+use Rattle.std.specs.Prelude.{◌≡◌, ℕ, false, List, Some, None, Option}
 use Rattle.catalog.specs.Catalog.{Catalog, Laws}
 use Rattle.life.specs.Calls.{Call, fill, requests}
-use Rattle.life.specs.Keep.{LivesOn, kept}
+use Rattle.life.specs.Keep.{kept, LivesOn}
 use Rattle.life.specs.Life.{Lived}
 use Rattle.life.specs.Lists.{first_place}
-use Rattle.life.specs.Outcomes.{Fits, Outcome, RefusedAtFirst, Unresolved, concluded, if_fits, unresolved}
+use Rattle.life.specs.Outcomes.{Outcome, if_fits, concluded, unresolved, Unresolved, Fits, RefusedAtFirst}
 use Rattle.life.specs.Settle.{settled}
-use Rattle.life.specs.Steps.{Book, Ending, Event, NamesStand, accepted, accepts, refused}
+use Rattle.life.specs.Steps.{Book, Ending, accepted, refused, accepts, Event, NamesStand}
 use Rattle.life.specs.Walk.{ended, walk_from}
 
 abbrev pub closing : ℕ → Option ℕ → Ending

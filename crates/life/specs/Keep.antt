@@ -1,6 +1,6 @@
 -- The book that a step leaves which keeps its finds, computed from what it read.
 -- Assumes nothing.
-use Rattle.std.specs.Prelude.{◌&&◌, ◌-◌, ◌||◌, ◌↔◌, ◌∷◌, ◌≡◌, ◌≤◌, Bool, List, None, Option, Some, [], bytes_eq, false, flat_map, if◌then◌else◌, is_some, nat_eq, option_and_then, option_map, option_to_list, true, ℕ, ℤ}
+use Rattle.std.specs.Prelude.{◌≡◌, ℕ, ◌-◌, ◌≤◌, Bool, true, false, ◌&&◌, ◌||◌, ◌↔◌, List, [], ◌∷◌, ℤ, is_some, if◌then◌else◌, nat_eq, Some, None, bytes_eq, flat_map, Option, option_map, option_to_list, option_and_then}
 use Rattle.std.specs.List.{list_any}
 use Rattle.std.specs.Option.{option_or}
 use Rattle.catalog.specs.Catalog.{Catalog, Laws, spent}
@@ -8,12 +8,12 @@ use Rattle.catalog.specs.Shape.{Name}
 use Rattle.keys.specs.Senses.{Pair, same_pair}
 use Rattle.unfolding.specs.Lists.{Mem}
 use Rattle.unfolding.specs.Unfolding.{Tree, built, node}
-use Rattle.life.specs.Calls.{Call, Declared, Field, array_link, array_of, bind, describe, fill, of_name, of_oid, requests, resolve}
+use Rattle.life.specs.Calls.{Declared, of_oid, of_name, array_of, Field, Call, fill, resolve, bind, describe, array_link, requests}
 use Rattle.life.specs.Life.{Lived}
 use Rattle.life.specs.Lists.{is_in}
-use Rattle.life.specs.Rounds.{Descriptors, StandsOnce, found}
+use Rattle.life.specs.Rounds.{Descriptors, found, StandsOnce}
 use Rattle.life.specs.Settle.{settled}
-use Rattle.life.specs.Steps.{Book, Ending, Event, LastOfCall, TellsTypeRounds, accepts, keeps_finds, rounds_told}
+use Rattle.life.specs.Steps.{Book, Ending, rounds_told, accepts, keeps_finds, TellsTypeRounds, Event, LastOfCall}
 
 abbrev pub if_named : Name → ℕ → Tree → Option ℕ
 if_named n o (built p) = None

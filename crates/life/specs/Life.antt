@@ -1,11 +1,11 @@
 -- Whole lives of a book, and the law that holds of each.
 -- Assumes nothing.
-use Rattle.std.specs.Prelude.{◌+◌, ◌↔◌, ◌∷◌, ◌≡◌, ◌⊎◌, List, Some, [], true, ℕ, ℤ}
-use Rattle.catalog.specs.Catalog.{Catalog, CatalogColumn, Grows}
+use Rattle.std.specs.Prelude.{◌≡◌, ℕ, ◌+◌, true, ◌⊎◌, ◌↔◌, List, [], ◌∷◌, ℤ, Some}
+use Rattle.catalog.specs.Catalog.{CatalogColumn, Catalog, Grows}
 use Rattle.catalog.specs.Shape.{Name}
-use Rattle.unfolding.specs.Unfolding.{HasUnfolding, Tree, Unfolds, built_in}
+use Rattle.unfolding.specs.Unfolding.{Tree, built_in, Unfolds, HasUnfolding}
 use Rattle.life.specs.Calls.{array_link}
-use Rattle.life.specs.Steps.{Book, Event, LastOfCall, LedTo, Step, TellsTypeRounds, answer, empty_book, keeps_finds, rounds_told, wanted}
+use Rattle.life.specs.Steps.{Book, empty_book, answer, rounds_told, keeps_finds, TellsTypeRounds, Event, wanted, LastOfCall, LedTo, Step}
 
 -- b is the book that the steps of a history, the last one first, left of the empty book, and c the catalog as it now stands: each
 -- step met the book that the steps before it left, on a catalog that had only grown since

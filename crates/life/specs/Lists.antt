@@ -1,9 +1,9 @@
 -- Lists: a test of membership, each element once, how many numbers have a property, and the place of the first element that has
 -- one.
 -- Assumes nothing.
-use Rattle.std.specs.Prelude.{◌++◌, ◌||◌, ◌∷◌, ◌≡◌, ◌≤◌, ◌⊎◌, Bool, List, None, Option, Some, [], false, length, nat_eq, suc, true, ℕ}
+use Rattle.std.specs.Prelude.{◌≡◌, ℕ, suc, ◌≤◌, Bool, true, false, ◌||◌, ◌⊎◌, List, [], ◌∷◌, ◌++◌, length, nat_eq, Some, None, Option}
 use Rattle.std.specs.List.{list_any}
-use Rattle.unfolding.specs.Lists.{Distinct, Mem}
+use Rattle.unfolding.specs.Lists.{Mem, Distinct}
 
 abbrev pub is_in : ℕ → List ℕ → Bool
 is_in o os = list_any (nat_eq o) os

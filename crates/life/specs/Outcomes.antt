@@ -1,7 +1,7 @@
 -- How a computed call comes to its outcome once its rounds are walked.
 -- Assumes nothing.
-use Rattle.std.specs.Prelude.{◌&&◌, ◌↔◌, ◌≡◌, ◌⊎◌, Bool, List, None, Option, Some, false, is_some, not, suc, true, ℕ}
-use Rattle.catalog.specs.Catalog.{Catalog, CatalogRow}
+use Rattle.std.specs.Prelude.{◌≡◌, ℕ, suc, Bool, true, false, not, ◌&&◌, ◌⊎◌, ◌↔◌, List, is_some, Some, None, Option}
+use Rattle.catalog.specs.Catalog.{CatalogRow, Catalog}
 use Rattle.unfolding.specs.Lists.{Mem}
 use Rattle.unfolding.specs.Unfolding.{HasUnfolding}
 use Rattle.life.specs.Lists.{FirstAt}

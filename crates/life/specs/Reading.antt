@@ -1,12 +1,12 @@
 -- Round 1 of a Resolve, one question after the other, as code asks them.
 -- Assumes nothing.
-use Rattle.std.specs.Prelude.{◌++◌, ◌||◌, ◌∷◌, ◌≡◌, Bool, List, [], false, suc, true, zero, ℕ}
+use Rattle.std.specs.Prelude.{◌≡◌, ℕ, zero, suc, Bool, true, false, ◌||◌, List, [], ◌∷◌, ◌++◌}
 use Rattle.catalog.specs.Catalog.{Catalog}
 use Rattle.life.specs.Calls.{Declared}
 use Rattle.life.specs.Lists.{is_in}
-use Rattle.life.specs.RoundOne.{Question, asked_in_full, asked_oid, entry_asks, for_array, for_arrays_alone, in_full, miscoded, refusable, round_one, spared}
+use Rattle.life.specs.RoundOne.{Question, in_full, for_array, asked_oid, asked_in_full, for_arrays_alone, miscoded, refusable, entry_asks, spared, round_one}
 use Rattle.life.specs.Steps.{Book}
-use Rattle.life.specs.Walk.{Asked, all_read, answered, ask_each, malformed, stop}
+use Rattle.life.specs.Walk.{answered, malformed, Asked, all_read, stop, ask_each}
 
 -- the OIDs read in full, the oldest first, the elements read for their typarray alone, and how many rows may still be asked for; or
 -- number and place of a refusal

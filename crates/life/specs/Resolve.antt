@@ -1,19 +1,19 @@
 -- A whole Resolve, computed: its rounds, the passes, refusals 8 to 10, and the OIDs written.
 -- Assumes nothing.
-use Rattle.std.specs.Prelude.{◌||◌, ◌↔◌, ◌∷◌, ◌≡◌, Bool, List, None, Option, Some, [], false, flat_map, if◌then◌else◌, is_some, not, option_and_then, option_to_list, true, ℕ}
+use Rattle.std.specs.Prelude.{◌≡◌, ℕ, Bool, true, false, not, ◌||◌, ◌↔◌, List, [], ◌∷◌, is_some, if◌then◌else◌, Some, None, flat_map, Option, option_to_list, option_and_then}
 use Rattle.std.specs.List.{list_any}
 use Rattle.std.specs.Option.{option_or}
 use Rattle.catalog.specs.Catalog.{Catalog, Laws}
 use Rattle.unfolding.specs.Lists.{Mem}
-use Rattle.life.specs.Calls.{Declared, array_link, array_of, entry_requests, of_name, of_oid, resolve}
-use Rattle.life.specs.Keep.{LivesOn, if_settled, kept_names}
+use Rattle.life.specs.Calls.{Declared, of_oid, of_name, array_of, resolve, array_link, entry_requests}
+use Rattle.life.specs.Keep.{if_settled, kept_names, LivesOn}
 use Rattle.life.specs.Life.{Lived}
-use Rattle.life.specs.Lists.{first_place, is_in}
-use Rattle.life.specs.Outcomes.{Fits, Outcome, RefusedAtFirst, Unresolved, concluded, if_fits, unresolved}
-use Rattle.life.specs.RoundOne.{asked_in_full, entry_asks, for_arrays_alone, lead, link, resolve_walk, round_one}
+use Rattle.life.specs.Lists.{is_in, first_place}
+use Rattle.life.specs.Outcomes.{Outcome, if_fits, concluded, unresolved, Unresolved, Fits, RefusedAtFirst}
+use Rattle.life.specs.RoundOne.{asked_in_full, for_arrays_alone, lead, link, entry_asks, round_one, resolve_walk}
 use Rattle.life.specs.Rounds.{Descriptors, Known}
 use Rattle.life.specs.Settle.{settled}
-use Rattle.life.specs.Steps.{Book, Ending, Event, accepted, accepts, refused}
+use Rattle.life.specs.Steps.{Book, Ending, accepted, refused, accepts, Event}
 use Rattle.life.specs.Walk.{ended}
 
 module _ (c : Catalog) (b : Book) where

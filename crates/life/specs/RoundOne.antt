@@ -1,18 +1,18 @@
 -- The rounds of a Resolve, computed: what round 1 asks for, and the rounds after it.
 -- Assumes nothing.
-use Rattle.std.specs.Prelude.{◌++◌, ◌||◌, ◌↔◌, ◌∷◌, ◌≡◌, ◌≤◌, ◌⊎◌, Bool, List, None, Option, Some, [], false, flat_map, is_some, length, map, not, option_to_list, suc, true, zero, ℕ}
+use Rattle.std.specs.Prelude.{◌≡◌, ℕ, zero, suc, ◌≤◌, Bool, true, false, not, ◌||◌, ◌⊎◌, ◌↔◌, List, [], ◌∷◌, ◌++◌, map, length, is_some, Some, None, flat_map, Option, option_to_list}
 use Rattle.std.specs.List.{list_any}
 use Rattle.std.specs.Option.{option_or}
-use Rattle.catalog.specs.Catalog.{Catalog, CatalogRow}
+use Rattle.catalog.specs.Catalog.{CatalogRow, Catalog}
 use Rattle.catalog.specs.Shape.{Name, codes_listed}
-use Rattle.unfolding.specs.Lists.{Distinct, Mem}
-use Rattle.life.specs.Calls.{ArrayIn, Declared, array_link, array_of, of_name, of_oid, requests, resolve}
+use Rattle.unfolding.specs.Lists.{Mem, Distinct}
+use Rattle.life.specs.Calls.{Declared, of_oid, of_name, array_of, resolve, array_link, requests, ArrayIn}
 use Rattle.life.specs.Life.{Lived}
-use Rattle.life.specs.Lists.{AtMost, fresh, is_in}
-use Rattle.life.specs.Rounds.{Anything, Known, Stands, StandsOnce}
-use Rattle.life.specs.Steps.{Book, Event, LastOfCall, SomeStands}
-use Rattle.life.specs.Stops.{Offence, StopsAt}
-use Rattle.life.specs.Walk.{Walked, and_then, answered, ask_each, ended, links_of, malformed, stopped, walk}
+use Rattle.life.specs.Lists.{is_in, fresh, AtMost}
+use Rattle.life.specs.Rounds.{Known, Stands, StandsOnce, Anything}
+use Rattle.life.specs.Steps.{Book, Event, SomeStands, LastOfCall}
+use Rattle.life.specs.Stops.{StopsAt, Offence}
+use Rattle.life.specs.Walk.{answered, links_of, malformed, ask_each, Walked, ended, stopped, and_then, walk}
 
 -- a row that round 1 may ask for: that of a requested OID, in full, or that of an element, for its typarray alone
 pub data Question : Type 0 where

@@ -1,9 +1,9 @@
 -- What stands in which round of a step.
 -- Assumes nothing.
-use Rattle.std.specs.Prelude.{◌≡◌, ◌≤◌, ◌⊎◌, List, None, Option, Some, false, if◌then◌else◌, suc, true, zero, ℕ}
+use Rattle.std.specs.Prelude.{◌≡◌, ℕ, zero, suc, ◌≤◌, true, false, ◌⊎◌, List, if◌then◌else◌, Some, None, Option}
 use Rattle.catalog.specs.Catalog.{Catalog}
 use Rattle.unfolding.specs.Lists.{Mem}
-use Rattle.unfolding.specs.Unfolding.{Link, Tree, built, built_in}
+use Rattle.unfolding.specs.Unfolding.{Tree, built, Link, built_in}
 
 -- what a book describes
 abbrev pub Descriptors : Type 0

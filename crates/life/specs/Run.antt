@@ -1,14 +1,14 @@
 -- Lives whose every step is what the computed call gives, or a refusal before any round.
 -- Assumes nothing.
-use Rattle.std.specs.Prelude.{◌+◌, ◌-◌, ◌∷◌, ◌≡◌, ◌⊎◌, List, Option, [], false, ℕ}
-use Rattle.catalog.specs.Catalog.{Catalog, Grows, Laws, spent}
+use Rattle.std.specs.Prelude.{◌≡◌, ℕ, ◌+◌, ◌-◌, false, ◌⊎◌, List, [], ◌∷◌, Option}
+use Rattle.catalog.specs.Catalog.{Catalog, Laws, spent, Grows}
 use Rattle.life.specs.Bind.{bind_outcome}
-use Rattle.life.specs.Calls.{Call, bind, describe, fill, resolve}
+use Rattle.life.specs.Calls.{Call, fill, resolve, bind, describe}
 use Rattle.life.specs.Fill.{outcome}
-use Rattle.life.specs.Life.{Lawful, Lived}
+use Rattle.life.specs.Life.{Lived, Lawful}
 use Rattle.life.specs.Outcomes.{Outcome, TypeRounds}
 use Rattle.life.specs.Resolve.{resolve_outcome}
-use Rattle.life.specs.Steps.{Book, Ending, Event, LastOfCall, accepted, empty_book, refused, rounds_told}
+use Rattle.life.specs.Steps.{Book, empty_book, Ending, accepted, refused, rounds_told, Event, LastOfCall}
 
 -- a refusal before any round: 1, 2 or 3
 abbrev pub TurnedAway : Ending → Type 0

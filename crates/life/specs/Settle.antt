@@ -1,10 +1,10 @@
 -- Settling the rows read: pass after pass, a row whose links are all settled is settled itself.
 -- Assumes nothing.
-use Rattle.std.specs.Prelude.{◌==◌, ◌∷◌, ◌≡◌, List, None, Option, Some, [], false, if◌then◌else◌, is_some, length, option_and_then, option_map, suc, true, zero, ℕ}
+use Rattle.std.specs.Prelude.{◌≡◌, ℕ, zero, suc, true, false, List, [], ◌∷◌, length, is_some, if◌then◌else◌, ◌==◌, Some, None, Option, option_map, option_and_then}
 use Rattle.catalog.specs.Catalog.{Catalog}
 use Rattle.catalog.specs.Shape.{Shape, formed}
 use Rattle.unfolding.specs.Lists.{Mem}
-use Rattle.unfolding.specs.Unfolding.{Tree, Trees, more, node, none}
+use Rattle.unfolding.specs.Unfolding.{Tree, node, Trees, none, more}
 use Rattle.life.specs.Rounds.{Descriptors, found}
 
 abbrev pub put : Descriptors → ℕ → Tree → Descriptors

@@ -1,12 +1,12 @@
 -- A book, how a step ends, and what a step does to the book and the catalog.
 -- Assumes nothing.
-use Rattle.std.specs.Prelude.{◌&&◌, ◌+◌, ◌==◌, ◌||◌, ◌↔◌, ◌∷◌, ◌≡◌, ◌⊎◌, Bool, List, None, Option, Some, [], false, true, ℕ, ℤ}
-use Rattle.catalog.specs.Catalog.{Catalog, CatalogColumn, Grows, Laws}
-use Rattle.catalog.specs.Shape.{Head, Name}
+use Rattle.std.specs.Prelude.{◌≡◌, ℕ, ◌+◌, Bool, true, false, ◌&&◌, ◌||◌, ◌⊎◌, ◌↔◌, List, [], ◌∷◌, ℤ, ◌==◌, Some, None, Option}
+use Rattle.catalog.specs.Catalog.{CatalogColumn, Catalog, Laws, Grows}
+use Rattle.catalog.specs.Shape.{Name, Head}
 use Rattle.unfolding.specs.Lists.{Mem}
-use Rattle.unfolding.specs.Unfolding.{Leads, Tree, Trees, Unfolds, built_in, node}
-use Rattle.life.specs.Calls.{AsksColumn, Call, Declared, Declares, DeclaresArray, array_link, array_of, bind, describe, fill, of_name, of_oid, requests, resolve}
-use Rattle.life.specs.Rounds.{Descriptors, Known, LastRound, StandsOnce, found}
+use Rattle.unfolding.specs.Unfolding.{Tree, node, Trees, built_in, Unfolds, Leads}
+use Rattle.life.specs.Calls.{Declared, of_oid, of_name, array_of, Call, fill, resolve, bind, describe, array_link, requests, Declares, DeclaresArray, AsksColumn}
+use Rattle.life.specs.Rounds.{Descriptors, Known, found, StandsOnce, LastRound}
 
 pub record Book : Type 0 where
   pub descriptors : Descriptors

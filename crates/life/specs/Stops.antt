@@ -1,11 +1,11 @@
 -- Where a walk stops, in the order in which rows are read, and when it does not.
 -- Assumes nothing.
-use Rattle.std.specs.Prelude.{◌++◌, ◌+◌, ◌<◌, ◌↔◌, ◌∷◌, ◌≡◌, ◌≤◌, ◌⊎◌, Bool, List, [], false, length, nat_eq, suc, true, zero, ℕ}
+use Rattle.std.specs.Prelude.{◌≡◌, ℕ, zero, suc, ◌+◌, ◌<◌, ◌≤◌, Bool, true, false, ◌⊎◌, ◌↔◌, List, [], ◌∷◌, ◌++◌, length, nat_eq}
 use Rattle.catalog.specs.Catalog.{Catalog, Each}
 use Rattle.unfolding.specs.Lists.{Mem}
-use Rattle.life.specs.Lists.{AtMost, fresh, push_all}
-use Rattle.life.specs.Rounds.{Descriptors, LastRound, Layer, Stands, StandsOnce}
-use Rattle.life.specs.Walk.{answered, ended, links_of, malformed, stopped, walk_from}
+use Rattle.life.specs.Lists.{fresh, push_all, AtMost}
+use Rattle.life.specs.Rounds.{Descriptors, Layer, Stands, StandsOnce, LastRound}
+use Rattle.life.specs.Walk.{answered, links_of, malformed, ended, stopped, walk_from}
 
 module _ (c : Catalog) (b : Descriptors) (rs : List ℕ) where
   abbrev mutual

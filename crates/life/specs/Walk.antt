@@ -1,8 +1,8 @@
 -- What the rounds of a step ask for, computed.
 -- Assumes nothing.
-use Rattle.std.specs.Prelude.{◌++◌, ◌||◌, ◌∷◌, Bool, List, None, Option, Some, [], false, flat_map, is_some, not, suc, true, zero, ℕ}
-use Rattle.catalog.specs.Catalog.{Catalog, CatalogRow}
-use Rattle.catalog.specs.Shape.{Shape, formed, shape}
+use Rattle.std.specs.Prelude.{ℕ, zero, suc, Bool, true, false, not, ◌||◌, List, [], ◌∷◌, ◌++◌, is_some, Some, None, flat_map, Option}
+use Rattle.catalog.specs.Catalog.{CatalogRow, Catalog}
+use Rattle.catalog.specs.Shape.{Shape, shape, formed}
 use Rattle.unfolding.specs.Unfolding.{built_in}
 use Rattle.life.specs.Lists.{fresh}
 use Rattle.life.specs.Rounds.{Descriptors}

@@ -1,16 +1,16 @@
 -- What an accepted Bind writes.
 -- Assumes nothing.
-use Rattle.std.specs.Prelude.{◌↔◌, ◌∷◌, ◌≡◌, ◌⊎◌, List, None, Option, Some, [], if◌then◌else◌, map, suc, ℕ, ℤ}
-use Rattle.catalog.specs.Catalog.{Catalog, CatalogColumn}
+use Rattle.std.specs.Prelude.{◌≡◌, ℕ, suc, ◌⊎◌, ◌↔◌, List, [], ◌∷◌, map, ℤ, if◌then◌else◌, Some, None, Option}
+use Rattle.catalog.specs.Catalog.{CatalogColumn, Catalog}
 use Rattle.catalog.specs.Shape.{Name}
 use Rattle.keys.specs.Senses.{Pair}
 use Rattle.unfolding.specs.Unfolding.{Tree, Unfolds}
-use Rattle.life.specs.Calls.{Binding, Field}
+use Rattle.life.specs.Calls.{Field, Binding}
 use Rattle.life.specs.Keep.{source}
 use Rattle.life.specs.Life.{Lived}
 use Rattle.life.specs.Outcomes.{Outcome}
 use Rattle.life.specs.Rounds.{Known, found}
-use Rattle.life.specs.Steps.{Book, Event, accepts}
+use Rattle.life.specs.Steps.{Book, accepts, Event}
 
 -- a type: its OID, settled or as declared
 pub data WrittenType : Type 0 where
