@@ -1,1 +1,3 @@
 pub mod BuiltIn
+pub mod Cards
+pub mod Steps

@@ -2,7 +2,11 @@
 #![tactic(auto)]
 
 ghost use Rattle.worked_examples.specs.BuiltIn.{BuiltInExamples};
+ghost use Rattle.worked_examples.specs.Steps.{BindExamples, FillExamples, ResolveExamples};
 
 pub fn examples_hold()
-    ensures { BuiltInExamples }
+    ensures built_in { BuiltInExamples }
+    ensures fill { FillExamples }
+    ensures resolve { ResolveExamples }
+    ensures bind { BindExamples }
 {}

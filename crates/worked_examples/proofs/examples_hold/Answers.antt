@@ -1,15 +1,57 @@
 use Rattle.std.proofs.Common.{refl}
 use Rattle.type_info.specs.Table.{types, entries}
+use Rattle.catalog.specs.Shape.{formed, shape}
 use Rattle.worked_examples.proofs.examples_hold.Goals as goal
 
 pub returns : goal.returns
-unfolding types entries
+unfolding types entries formed shape
 returns c = record {
-  int4 = refl;
-  int4_array = refl;
-  int4_range = refl;
-  int2vector = refl;
-  unknown = refl;
-  zero = refl;
-  largest = refl;
+  built_in = record {
+    int4 = refl;
+    int4_array = refl;
+    int4_range = refl;
+    int2vector = refl;
+    unknown = refl;
+    zero = refl;
+    largest = refl;
+  };
+  fill = record {
+    two = refl;
+    price = refl;
+    crop = refl;
+    no_more = refl;
+    poor = refl;
+    missing = refl;
+    nothing = refl;
+    alone = refl;
+    ring = refl;
+    chain_64 = refl;
+    chain_65 = refl;
+  };
+  resolve = record {
+    vector_ends = refl;
+    vector_writes = refl;
+    array_ends = refl;
+    array_writes = refl;
+    lacking_ends = refl;
+    lacking_link = refl;
+    lacking_name = refl;
+    found_ends = refl;
+    found_writes = refl;
+    again = refl;
+    no_room = refl;
+    with_room = refl;
+    described = refl;
+    nameless = refl;
+  };
+  bind = record {
+    ends = refl;
+    writes = refl;
+    poor = refl;
+    poor_keeps = refl;
+    poor_leaves = refl;
+    poor_writes = refl;
+    without = refl;
+    quiet = refl;
+  };
 }
