@@ -8,7 +8,7 @@ mod Walk
 mod Ends
 mod Tells
 mod Settle
-mod Keep
+pub mod Keep
 mod Outcomes
 mod Fill
 mod Questions

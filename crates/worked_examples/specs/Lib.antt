@@ -1,3 +1,4 @@
 pub mod BuiltIn
 pub mod Cards
 pub mod Steps
+pub mod Lives

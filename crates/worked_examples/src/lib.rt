@@ -2,6 +2,7 @@
 #![tactic(auto)]
 
 ghost use Rattle.worked_examples.specs.BuiltIn.{BuiltInExamples};
+ghost use Rattle.worked_examples.specs.Lives.{LifeExamples};
 ghost use Rattle.worked_examples.specs.Steps.{BindExamples, FillExamples, ResolveExamples};
 
 pub fn examples_hold()
@@ -9,4 +10,5 @@ pub fn examples_hold()
     ensures fill { FillExamples }
     ensures resolve { ResolveExamples }
     ensures bind { BindExamples }
+    ensures life { LifeExamples }
 {}

@@ -1,6 +1,7 @@
 use Rattle.std.proofs.Common.{refl}
 use Rattle.type_info.specs.Table.{types, entries}
 use Rattle.catalog.specs.Shape.{formed, shape}
+use Rattle.worked_examples.proofs.Lives.{one_laws, one_life}
 use Rattle.worked_examples.proofs.examples_hold.Goals as goal
 
 pub returns : goal.returns
@@ -54,4 +55,5 @@ returns c = record {
     without = refl;
     quiet = refl;
   };
+  life = record { laws = one_laws; first_ends = refl; second_ends = refl; life = one_life; knows = refl };
 }
