@@ -1,6 +1,6 @@
 // How many slots a search for a key that is there looks at, on the average, at three loads.
 use indexes::names::NameIndex;
-use indexes::oids::OidIndex;
+use indexes::whole::OidIndex;
 use keys::kinds::Attribute;
 use slots::map::Map;
 use std::alloc::AllocError;
