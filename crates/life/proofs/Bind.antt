@@ -10,13 +10,14 @@ use Rattle.keys.specs.Senses.{Pair, same_pair}
 use Rattle.unfolding.specs.Lists.{Mem, Distinct}
 use Rattle.life.specs.Bind.{column_questions, types_book, columns_book, column_round, types_settled, bind_settled, bind_outcome, BindLaw, ColumnsLaw, QuestionsLaw, AnyColumn, TellsColumns, ColumnRoundLaw, BindNineLaw}
 use Rattle.life.specs.Calls.{Binding, bind, requests, AsksColumn}
-use Rattle.life.specs.Keep.{sources, asks_column, kept, call_event}
+use Rattle.life.specs.Keep.{kept, call_event}
 use Rattle.life.specs.Life.{Lived}
 use Rattle.life.specs.Lists.{fresh_by, first_place}
 use Rattle.life.specs.Outcomes.{Outcome, fitted, if_fits, concluded, unresolved, Unresolved, Fits, RefusedAtFirst}
 use Rattle.life.specs.Rounds.{Descriptors}
 use Rattle.life.specs.Settle.{settled}
 use Rattle.life.specs.Steps.{Book, Ending, accepted, refused, rounds_told, accepts, keeps_finds, TellsTypeRounds, Event, Step}
+use Rattle.life.specs.Tests.{sources, asks_column}
 use Rattle.life.specs.Walk.{Walked, ended, stopped, walk_from}
 use Rattle.life.proofs.Fresh.{fresh_has, has_fresh, fresh_distinct}
 use Rattle.life.proofs.Keep.{keeping_step, lives_on}

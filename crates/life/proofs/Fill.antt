@@ -3,7 +3,7 @@
 use Rattle.std.proofs.Common.{◌≡◌, ℕ, true, false, ◌↔◌, List, Some, None, Option, sym, refl, ap, ◌∙◌, subst, arith}
 use Rattle.catalog.specs.Catalog.{Catalog, Laws}
 use Rattle.life.specs.Calls.{Call, fill, requests}
-use Rattle.life.specs.Fill.{closing, settled_outcome, outcome, QuietLaw, FillLaw, NineLaw}
+use Rattle.life.specs.Fill.{closing, quiet_settled, quiet_outcome, QuietLaw, FillLaw, NineLaw}
 use Rattle.life.specs.Keep.{kept}
 use Rattle.life.specs.Life.{Lived}
 use Rattle.life.specs.Lists.{first_place}
@@ -40,7 +40,7 @@ module _ (full : Book → Option ℕ) (h : List Event) (c : Catalog) (b : Book) 
   abbrev rs : List ℕ
   rs = requests c call
 
-  walked_next : (w : Walked) → Result c b.descriptors rs ⊥ 0 w → Next c b call laws (concluded b (settled_outcome full c b call) w)
+  walked_next : (w : Walked) → Result c b.descriptors rs ⊥ 0 w → Next c b call laws (concluded b (quiet_settled full c b call) w)
   walked_next (ended n reads) r =
       let x : Option ℕ = first_place (unresolved c (settled c b.descriptors reads)) 0 rs in
       let left : Book = kept c call reads b (accepts (closing n x)) in
@@ -50,12 +50,12 @@ module _ (full : Book → Option ℕ) (h : List Event) (c : Catalog) (b : Book) 
       (closing_keeps n x) (closing_tells n x) (omega (arith, closing_told n x, r.2)))
   walked_next (stopped n p k) r = refusal_next c b call laws n p k (offence_bare c b.descriptors rs 0 n p k r.0) r.1
 
-  pub quiet_step : Next c b call laws (outcome full c b call)
+  pub quiet_step : Next c b call laws (quiet_outcome full c b call)
   quiet_step = walked_next (walk_from c b.descriptors rs) (walk_result c b.descriptors rs)
 
 pub quiet_law : QuietLaw
 quiet_law full h c b call laws l quiet =
-    lives_on h c b (outcome full c b call).left call (outcome full c b call).ending l (quiet_step full h c b call laws l quiet)
+    lives_on h c b (quiet_outcome full c b call).left call (quiet_outcome full c b call).ending l (quiet_step full h c b call laws l quiet)
 
 pub fill_law : FillLaw
 fill_law full h c b rs laws l = quiet_law full h c b (fill rs) laws l (λ x. x)
@@ -68,8 +68,8 @@ nine_law full h c b call l n reads w fits =
     let left : Book = kept c call reads b (accepts (closing n x)) in
     let fine : Outcome = record { ending = closing n x; left = left } in
     let r = subst (Result c b.descriptors rs ⊥ 0) w (walk_result c b.descriptors rs) in
-    let out : outcome full c b call ≡ fine = fits_so (outcome full c b call) fine (full left) b n (ap (concluded b (settled_outcome full c b call)) w) fits in
-    let told : (outcome full c b call).ending ≡ closing n x = ap (λ (o : Outcome). o.ending) out in
-    refused_first (outcome full c b call).ending 9 n (unresolved c d) (Unresolved c) rs
+    let out : quiet_outcome full c b call ≡ fine = fits_so (quiet_outcome full c b call) fine (full left) b n (ap (concluded b (quiet_settled full c b call)) w) fits in
+    let told : (quiet_outcome full c b call).ending ≡ closing n x = ap (λ (o : Outcome). o.ending) out in
+    refused_first (quiet_outcome full c b call).ending 9 n (unresolved c d) (Unresolved c) rs
     (unresolved_tells c b.descriptors rs (fit h c b l).sound reads (ended_reads c b.descriptors rs ⊥ 0 n reads r.0))
     (λ place. (λ y. (closing_nine n x place).0 (sym told ∙ y), λ y. told ∙ (closing_nine n x place).1 y))

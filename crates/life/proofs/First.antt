@@ -1,66 +1,49 @@
 -- The rounds of a Resolve: what they come to, when they end and where they stop.
 -- Assumes nothing.
-use Rattle.std.proofs.Common.{◌≡◌, ℕ, zero, suc, ◌+◌, ◌≤◌, Bool, true, false, not, ◌||◌, ◌⊎◌, List, [], ◌∷◌, ◌++◌, length, is_some, None, sym, refl, ap, ◌∙◌, subst, inl, inr, ⊎_elim, arith, length-append}
-use Rattle.std.proofs.lemmas.Bool.{cases_Bool, not-true, or_cases, or_left, or_parts, or_right}
+use Rattle.std.proofs.Common.{◌≡◌, ℕ, zero, suc, ◌+◌, ◌≤◌, Bool, true, false, not, ◌||◌, ◌⊎◌, List, [], ◌∷◌, ◌++◌, length, is_some, None, Decides, sym, refl, ap, ◌∙◌, subst, inl, inr, ⊎_elim, arith, length-append}
+use Rattle.std.proofs.lemmas.Bool.{cases_Bool, not-true, or_cases, or_parts}
 use Rattle.std.specs.List.{list_any}
 use Rattle.catalog.specs.Catalog.{Catalog}
 use Rattle.catalog.specs.Shape.{Name}
 use Rattle.unfolding.specs.Lists.{Mem, Distinct}
 use Rattle.unfolding.proofs.Lists.{pigeon}
-use Rattle.life.specs.Calls.{Declared, of_oid, of_name, array_of, resolve, requests, ArrayIn}
+use Rattle.life.specs.Calls.{Declared, of_oid, of_name, array_of, resolve, requests, IsArrayOf}
 use Rattle.life.specs.Life.{Agrees}
-use Rattle.life.specs.Lists.{fresh}
+use Rattle.life.specs.Lists.{AnyOf, fresh}
 use Rattle.life.specs.RoundOne.{Question, in_full, for_array, asked_oid, asked_in_full, for_arrays_alone, miscoded, refusable, any_question, asks_name, round_one, first_opened, resolve_walk, OrderlyResolve, FirstRound, RoundOneLaw, ResolveEndsLaw, ResolveStopsLaw}
 use Rattle.life.specs.Rounds.{Anything}
-use Rattle.life.specs.Steps.{Book, SomeStands}
+use Rattle.life.specs.Steps.{Book, NameStands, NamesStand}
 use Rattle.life.specs.Stops.{earlier, Offence}
 use Rattle.life.specs.Walk.{answered, links_of, ask_each, Walked, ended, stopped, and_then, walk}
 use Rattle.life.proofs.Asking.{split_asked, ask_stops, ask_reads}
 use Rattle.life.proofs.Ends.{shows}
 use Rattle.life.proofs.Life.{agrees}
-use Rattle.life.proofs.Lists.{not_both, is_none_if, none_not_some, chosen_true, chosen_false, mem_left, mem_right, mem_split}
+use Rattle.life.proofs.Lists.{not_both, is_none_if, none_not_some, chosen_true, chosen_false, mem_left, mem_right, mem_split, any_tells}
 use Rattle.life.proofs.Questions.{mem_full, mem_alone, parts_length, each_sane, round_full, alone_apart, element_read, all_distinct}
 use Rattle.life.proofs.Standing.{layer_stands, stands_layer, earlier_stands}
 use Rattle.life.proofs.Walk.{Ended, Result, walked, ended_counts, ended_reads, last_once}
 
 module _ (c : Catalog) (b : Book) (agree : Agrees c b) where
-  -- an array of e is declared that the book does not hold: something stands
-  array_stands : (ds : List Declared) (e : ℕ) → ArrayIn c ds e → b.arrays e ≡ None → SomeStands c b ds
-  array_stands [] e m z = absurd m
-  array_stands (of_oid o ∷ ds) e m z = inr (array_stands ds e m z)
-  array_stands (of_name n ∷ ds) e m z = inr (array_stands ds e m z)
-  array_stands (array_of n ∷ ds) e (inl q) z = inl (inr (e, inr q, z))
-  array_stands (array_of n ∷ ds) e (inr m) z = inr (array_stands ds e m z)
+  -- an entry's array that the book does not hold stands, and so does a name
+  array_stands : (x : Declared) (e : ℕ) → IsArrayOf c x e → b.arrays e ≡ None → NameStands c b x
+  array_stands (of_oid o) e m z = absurd m
+  array_stands (of_name n) e m z = absurd m
+  array_stands (array_of n) e m z = inr (e, inr m, z)
 
   unanswered_name : (n : Name) → not (is_some (b.names n)) ≡ true → b.names n ≡ None
   unanswered_name n t = is_none_if (b.names n) (not-true (is_some (b.names n)) t)
 
-  name_stands : (ds : List Declared) → list_any (asks_name c b) ds ≡ true → SomeStands c b ds
-  name_stands [] t = absurd cc
-  name_stands (of_oid o ∷ ds) t = inr (name_stands ds t)
-  name_stands (of_name n ∷ ds) t = ⊎_elim (λ y. inl (unanswered_name n y)) (λ y. inr (name_stands ds y)) (or_cases (not (is_some (b.names n))) (list_any (asks_name c b) ds) t)
-  name_stands (array_of n ∷ ds) t =
-      ⊎_elim (λ y. inl (inl (unanswered_name n y))) (λ y. inr (name_stands ds y)) (or_cases (not (is_some (b.names n))) (list_any (asks_name c b) ds) t)
+  name_stands : (x : Declared) → asks_name c b x ≡ true → NameStands c b x
+  name_stands (of_oid o) t = absurd cc
+  name_stands (of_name n) t = unanswered_name n t
+  name_stands (array_of n) t = inl (unanswered_name n t)
 
-  abbrev Why : List Declared → Type 0
-  Why ds = (list_any (asks_name c b) ds ≡ true) ⊎ ((e : ℕ) × ArrayIn c ds e × (b.arrays e ≡ None))
-
-  asks_here : (n : Name) (ds : List Declared) → b.names n ≡ None → (not (is_some (b.names n)) || list_any (asks_name c b) ds) ≡ true
-  asks_here n ds y = or_left (not (is_some (b.names n))) (list_any (asks_name c b) ds) (ap not (none_not_some (b.names n) y))
-
-  asks_later : (n : Name) (ds : List Declared) → list_any (asks_name c b) ds ≡ true → (not (is_some (b.names n)) || list_any (asks_name c b) ds) ≡ true
-  asks_later n ds z = or_right (not (is_some (b.names n))) (list_any (asks_name c b) ds) z
-
-  -- what stands in round 1 besides OIDs is a name, or an element for its array
-  stands_why : (ds : List Declared) → SomeStands c b ds → Why ds
-  stands_why [] s = absurd s
-  stands_why (of_oid o ∷ ds) s = ⊎_elim (λ y. absurd y) (stands_why ds) s
-  stands_why (of_name n ∷ ds) s = ⊎_elim (λ y. inl (asks_here n ds y)) (λ y. ⊎_elim (λ z. inl (asks_later n ds z)) (λ z. inr z) (stands_why ds y)) s
-  stands_why (array_of n ∷ ds) s =
-      ⊎_elim
-      (⊎_elim (λ y. inl (asks_here n ds y)) (λ y. inr (y.0, inl (⊎_elim (agree.names n y.0) (λ z. z) y.1), y.2)))
-      (λ y. ⊎_elim (λ z. inl (asks_later n ds z)) (λ z. inr (z.0, inr z.1, z.2)) (stands_why ds y))
-      s
+  -- what stands of an entry besides OIDs is its name, or its element for the array
+  stands_why : (x : Declared) → NameStands c b x → (asks_name c b x ≡ true) ⊎ ((e : ℕ) × IsArrayOf c x e × (b.arrays e ≡ None))
+  stands_why (of_oid o) s = absurd s
+  stands_why (of_name n) s = inl (ap not (none_not_some (b.names n) s))
+  stands_why (array_of n) (inl y) = inl (ap not (none_not_some (b.names n) y))
+  stands_why (array_of n) (inr y) = inr (y.0, ⊎_elim (agree.names n y.0) (λ z. z) y.1, y.2)
 
   module _ (ds : List Declared) where
     abbrev rs : List ℕ
@@ -69,33 +52,43 @@ module _ (c : Catalog) (b : Book) (agree : Agrees c b) where
     abbrev qs : List Question
     qs = round_one c b ds
 
+    abbrev Others : Type 0
+    Others = NamesStand c b (resolve ds)
+
+    asked_name : Decides (list_any (asks_name c b) ds) (AnyOf (λ x. asks_name c b x ≡ true) ds)
+    asked_name = any_tells (asks_name c b) (λ x. asks_name c b x ≡ true) (λ x. (λ t. t, λ t. t)) ds
+
     abbrev extra : ℕ
     extra = length (for_arrays_alone qs)
 
     abbrev skip : ℕ → Bool
     skip = answered b.descriptors
 
-    question_stands : (l : List Question) → l ≡ qs → any_question l ≡ true → Anything c b.descriptors rs (SomeStands c b ds) 1
+    question_stands : (l : List Question) → l ≡ qs → any_question l ≡ true → Anything c b.descriptors rs Others 1
     question_stands [] e t = absurd cc
     question_stands (in_full o ∷ l) e t = inr (o, layer_stands c b.descriptors rs 0 o (subst (Mem o) (ap asked_in_full e ∙ round_full c b agree ds) (inl refl)))
     question_stands (for_array o ∷ l) e t =
         let h = (alone_apart c b agree ds o).0 (subst (Mem o) (ap for_arrays_alone e) (inl refl)) in
-        inl (refl, array_stands ds o h.0 h.2)
+        let x = h.0 in inl (refl, (x.0, x.1, array_stands x.0 o x.2 h.2))
 
-    any_first : (list_any (asks_name c b) ds || any_question qs) ≡ true → Anything c b.descriptors rs (SomeStands c b ds) 1
-    any_first t = ⊎_elim (λ y. inl (refl, name_stands ds y)) (λ y. question_stands qs refl y) (or_cases (list_any (asks_name c b) ds) (any_question qs) t)
+    any_first : (list_any (asks_name c b) ds || any_question qs) ≡ true → Anything c b.descriptors rs Others 1
+    any_first t = ⊎_elim (λ y. let x = asked_name.0 y in inl (refl, (x.0, x.1, name_stands x.0 x.2))) (λ y. question_stands qs refl y) (or_cases (list_any (asks_name c b) ds) (any_question qs) t)
 
     no_question : (l : List Question) → any_question l ≡ false → l ≡ []
     no_question [] e = refl
     no_question (q ∷ l) e = absurd cc
 
     -- where round 1 asks for nothing, nothing stands
-    none_first : list_any (asks_name c b) ds ≡ false → qs ≡ [] → SomeStands c b ds → ⊥
+    none_first : list_any (asks_name c b) ds ≡ false → qs ≡ [] → Others → ⊥
     none_first t z s =
         ⊎_elim
-        (λ y. not_both y t)
-        (λ y. ⊎_elim (λ m. subst (Mem y.0) (ap asked_in_full z) m) (λ m. subst (Mem y.0) (ap for_arrays_alone z) m) (element_read c b agree ds y.0 y.1 y.2))
-        (stands_why ds s)
+        (λ y. not_both (asked_name.1 (s.0, s.1, y)) t)
+        (λ y.
+        ⊎_elim
+        (λ m. subst (Mem y.0) (ap asked_in_full z) m)
+        (λ m. subst (Mem y.0) (ap for_arrays_alone z) m)
+        (element_read c b agree ds y.0 (s.0, s.1, y.1) y.2))
+        (stands_why s.0 s.2)
 
     abbrev pub Coded : Type 0
     Coded = (e : ℕ) → Mem e (for_arrays_alone qs) → miscoded (c.rows e) ≡ false
@@ -105,14 +98,14 @@ module _ (c : Catalog) (b : Book) (agree : Agrees c b) where
 
     -- what the rounds come to
     abbrev pub Come : Walked → Type 0
-    Come (ended n reads) = (Ended c b.descriptors rs (SomeStands c b ds) extra n reads × (n ≤ 64) × (n ≤ c.allowance)) × Coded
+    Come (ended n reads) = (Ended c b.descriptors rs Others extra n reads × (n ≤ 64) × (n ≤ c.allowance)) × Coded
     Come (stopped n p r) = Stop n p r × (r ≤ c.allowance)
 
-    come_on : Coded → (w : Walked) → Result c b.descriptors rs (SomeStands c b ds) extra w → Come w
+    come_on : Coded → (w : Walked) → Result c b.descriptors rs Others extra w → Come w
     come_on s (ended n reads) r = (r, s)
     come_on s (stopped n p k) r = (inr r.0, r.1)
 
-    opened : (allowance : ℕ) → allowance ≡ c.allowance → Anything c b.descriptors rs (SomeStands c b ds) 1 → Come (first_opened c b allowance qs)
+    opened : (allowance : ℕ) → allowance ≡ c.allowance → Anything c b.descriptors rs Others 1 → Come (first_opened c b allowance qs)
     opened zero a any = (inl (inl (refl, refl, refl, sym a, any)), omega arith)
     opened (suc allowance) a any =
         let read : List ℕ = asked_in_full qs in
@@ -125,7 +118,7 @@ module _ (c : Catalog) (b : Book) (agree : Agrees c b) where
         let sane = each_sane c qs h.1 in
         subst (λ x. Come (and_then x 1 next)) (sym r.1)
         (come_on sane.1 (next r.0)
-        (walked c b.descriptors rs (SomeStands c b ds) extra 63 1 r.0 allowance (fresh skip read (links_of c read)) read refl (omega (arith, a))
+        (walked c b.descriptors rs Others extra 63 1 r.0 allowance (fresh skip read (links_of c read)) read refl (omega (arith, a))
         (record {
           here = λ i. fresh skip (full i) (links_of c (full i));
           behind = full;
@@ -168,10 +161,10 @@ module _ (c : Catalog) (b : Book) (agree : Agrees c b) where
       ends_only : (w : Walked) (reads : List ℕ) → w ≡ ended n reads → Come w → OrderlyResolve c b ds n
       ends_only w reads e come =
           let g = subst Come e come in
-          let are = ended_reads c b.descriptors rs (SomeStands c b ds) extra n reads g.0.0 in
+          let are = ended_reads c b.descriptors rs Others extra n reads g.0.0 in
           let alone : List ℕ = for_arrays_alone qs in
           record {
-            last = ended_counts c b.descriptors rs (SomeStands c b ds) extra n reads g.0.0;
+            last = ended_counts c b.descriptors rs Others extra n reads g.0.0;
             rounds = g.0.1;
             allowed = g.0.2;
             sane = λ k o s. g.0.0.sane o ((are o).1 (k, s));
@@ -229,7 +222,7 @@ module _ (c : Catalog) (b : Book) (agree : Agrees c b) where
 
       ends_if : (w : Walked) → Come w → OrderlyResolve c b ds n → (reads : List ℕ) × (w ≡ ended n reads)
       ends_if (ended m reads) g o =
-          (reads, ap (λ i. ended i reads) (last_once c b.descriptors rs (SomeStands c b ds) m n (ended_counts c b.descriptors rs (SomeStands c b ds) extra m reads g.0.0) o.last))
+          (reads, ap (λ i. ended i reads) (last_once c b.descriptors rs Others m n (ended_counts c b.descriptors rs Others extra m reads g.0.0) o.last))
       ends_if (stopped number p r) g o = absurd (no_stop o number p r g.0)
 
 pub resolve_ends_law : ResolveEndsLaw

@@ -1,15 +1,15 @@
 -- What `fresh_by` and `links_of` hold.
 -- Assumes nothing.
-use Rattle.std.proofs.Common.{◌≡◌, ℕ, Bool, true, false, ◌||◌, List, [], ◌∷◌, ◌++◌, Decides, sym, refl, ap, ◌∙◌, subst, inl, inr, ⊎_elim, append_assoc, append-nil}
+use Rattle.std.proofs.Common.{◌≡◌, ℕ, Bool, true, false, ◌||◌, ◌↔◌, List, [], ◌∷◌, ◌++◌, Decides, sym, refl, ap, ◌∙◌, subst, inl, inr, ⊎_elim, append_assoc, append-nil}
 use Rattle.std.proofs.lemmas.Bool.{cases_Bool, or_cases, or_parts}
 use Rattle.std.specs.List.{list_any}
 use Rattle.catalog.specs.Catalog.{Catalog}
 use Rattle.catalog.specs.Shape.{formed}
 use Rattle.unfolding.specs.Lists.{Mem, Distinct}
 use Rattle.unfolding.specs.Unfolding.{Link}
-use Rattle.life.specs.Lists.{fresh_by, push_all}
+use Rattle.life.specs.Lists.{AnyOf, fresh_by, push_all}
 use Rattle.life.specs.Walk.{links_in, links_of}
-use Rattle.life.proofs.Lists.{not_both, split_option, chosen_true, chosen_false, mem_tells, mem_left, mem_right, mem_split}
+use Rattle.life.proofs.Lists.{not_both, split_option, chosen_true, chosen_false, mem_tells, flat_mem}
 
 module _ {A : Type 0} (same : A → A → Bool) (tells : (x y : A) → Decides (same x y) (x ≡ y)) (skip : A → Bool) where
   passes : (seen : List A) (x : A) (xs : List A) → (skip x || list_any (same x) seen) ≡ true → fresh_by same skip seen (x ∷ xs) ≡ fresh_by same skip seen xs
@@ -105,25 +105,19 @@ module _ {A : Type 0} (same : A → A → Bool) (tells : (x y : A) → Decides (
       ∙ ap (λ l. queue ++ l) (sym (takes queue x xs f)))
       (cases_Bool (skip x || list_any (same x) queue))
 
-pub link_in : (c : Catalog) (o p : ℕ) → Mem p (links_in (formed c o)) → Link c o p
-link_in c o p m =
-    ⊎_elim
-    (λ e. absurd (subst (λ x. Mem p (links_in x)) e m))
-    (λ s. (s.0, s.1, subst (λ x. Mem p (links_in x)) s.1 m))
-    (split_option (formed c o))
+link_mem : (c : Catalog) (o p : ℕ) → Mem p (links_in (formed c o)) ↔ Link c o p
+link_mem c o p = (
+  λ m.
+      ⊎_elim
+      (λ e. absurd (subst (λ x. Mem p (links_in x)) e m))
+      (λ s. (s.0, s.1, subst (λ x. Mem p (links_in x)) s.1 m))
+      (split_option (formed c o)),
+  λ l. subst (λ x. Mem p (links_in x)) (sym l.1) l.2,
+)
 
-pub in_link : (c : Catalog) (o p : ℕ) → Link c o p → Mem p (links_in (formed c o))
-in_link c o p l = subst (λ x. Mem p (links_in x)) (sym l.1) l.2
-
-pub links_have : (c : Catalog) (os : List ℕ) (p : ℕ) → Mem p (links_of c os) → (o : ℕ) × Mem o os × Link c o p
-links_have c [] p m = absurd m
-links_have c (o ∷ os) p m =
-    ⊎_elim
-    (λ l. (o, inl refl, link_in c o p l))
-    (λ r. let h = links_have c os p r in (h.0, inr h.1, h.2))
-    (mem_split p (links_in (formed c o)) (links_of c os) m)
-
-pub have_links : (c : Catalog) (os : List ℕ) (o p : ℕ) → Mem o os → Link c o p → Mem p (links_of c os)
-have_links c [] o p m l = absurd m
-have_links c (q ∷ os) o p (inl e) l = mem_left p (links_in (formed c q)) (links_of c os) (in_link c q p (subst (λ x. Link c x p) e l))
-have_links c (q ∷ os) o p (inr m) l = mem_right p (links_in (formed c q)) (links_of c os) (have_links c os o p m l)
+pub links_mem : (c : Catalog) (os : List ℕ) (p : ℕ) → Mem p (links_of c os) ↔ AnyOf (λ o. Link c o p) os
+links_mem c os p =
+    let all = flat_mem (λ o. links_in (formed c o)) os p in (
+      λ m. let x = all.0 m in (x.0, x.1, (link_mem c x.0 p).0 x.2),
+      λ x. all.1 (x.0, x.1, (link_mem c x.0 p).1 x.2),
+    )

@@ -7,12 +7,13 @@ use Rattle.catalog.specs.Shape.{Name, Head}
 use Rattle.unfolding.specs.Lists.{Mem}
 use Rattle.unfolding.specs.Unfolding.{Tree, built, node, Trees, Link, built_in, Unfolds}
 use Rattle.life.specs.Calls.{Call, array_link, requests, Declares, DeclaresArray}
-use Rattle.life.specs.Keep.{if_named, pretty_in, if_settled, declares, declares_array, asks_column, kept, call_event, LivesOn, KeepingLaw, LeavingLaw}
+use Rattle.life.specs.Keep.{if_named, pretty_in, if_settled, kept, call_event, LivesOn, KeepingLaw, LeavingLaw}
 use Rattle.life.specs.Life.{Lived}
 use Rattle.life.specs.Lists.{is_in}
 use Rattle.life.specs.Rounds.{Descriptors, Known, Unknown, found, StandsOnce}
 use Rattle.life.specs.Settle.{settled}
 use Rattle.life.specs.Steps.{Book, PrettyName, Ending, accepted, refused, rounds_told, accepts, keeps_finds, TellsTypeRounds, Event, LastOfCall, LedTo, KeepsDescriptors, KeepsNames, KeepsArrays, KeepsColumns, Step}
+use Rattle.life.specs.Tests.{declares, declares_array, asks_column}
 use Rattle.life.proofs.Known.{found_held, found_tells, Right, found_right}
 use Rattle.life.proofs.Life.{pretty_leads, Sound, Met, met_unless, met, Fit, fit}
 use Rattle.life.proofs.Lists.{not_both, not_some_none, same_some, split_option, bytes_same, same_bytes, in_mem, mem_in}

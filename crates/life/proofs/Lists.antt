@@ -1,12 +1,12 @@
 -- Tests that agree with statements: membership, absence, and the first place.
 -- Assumes nothing.
-use Rattle.std.proofs.Common.{◌≡◌, ℕ, suc, Bool, true, false, ◌⊎◌, ◌↔◌, List, [], ◌∷◌, ◌++◌, is_some, nat_eq, Some, None, Decides, Option, bytes_eq, sym, refl, ap, ◌∙◌, subst, inl, inr, ⊎_elim}
-use Rattle.std.proofs.lemmas.Bool.{cases_Bool}
+use Rattle.std.proofs.Common.{◌≡◌, ℕ, suc, Bool, true, false, ◌⊎◌, ◌↔◌, List, [], ◌∷◌, ◌++◌, is_some, nat_eq, Some, None, Decides, Option, flat_map, bytes_eq, sym, refl, ap, ◌∙◌, subst, inl, inr, ⊎_elim}
+use Rattle.std.proofs.lemmas.Bool.{cases_Bool, or_cases, or_left, or_right}
 use Rattle.std.proofs.lemmas.Bool.Decides.{Decides-eqb, Decides-or}
 use Rattle.std.proofs.lemmas.Slice.Eq.{bytes_eq-Decides}
 use Rattle.std.specs.List.{list_any}
 use Rattle.unfolding.specs.Lists.{Mem, Distinct}
-use Rattle.life.specs.Lists.{is_in, first_place, FirstAt}
+use Rattle.life.specs.Lists.{AnyOf, is_in, first_place, FirstAt}
 
 pub not_both : {b : Bool} → b ≡ true → b ≡ false → ⊥
 not_both {b} p q = absurd cc
@@ -82,6 +82,32 @@ mem_split x [] ys m = inr m
 mem_split x (y ∷ xs) ys (inl e) = inl (inl e)
 mem_split x (y ∷ xs) ys (inr m) = ⊎_elim (λ l. inl (inr l)) (λ r. inr r) (mem_split x xs ys m)
 
+-- what some list of a list of lists holds
+pub flat_mem : {A B : Type 0} (f : A → List B) (xs : List A) (y : B) → Mem y (flat_map f xs) ↔ AnyOf (λ x. Mem y (f x)) xs
+flat_mem f [] y = (λ m. absurd m, λ x. absurd x.1)
+flat_mem f (x ∷ xs) y =
+    let later = flat_mem f xs y in (
+      λ m. ⊎_elim (λ k. (x, inl refl, k)) (λ k. let z = later.0 k in (z.0, inr z.1, z.2)) (mem_split y (f x) (flat_map f xs) m),
+      λ z.
+          ⊎_elim
+          (λ e. mem_left y (f x) (flat_map f xs) (subst (λ v. Mem y (f v)) e z.2))
+          (λ m. mem_right y (f x) (flat_map f xs) (later.1 (z.0, m, z.2)))
+          z.1,
+    )
+
+-- a test that decides P decides whether some element has it
+pub any_tells : {A : Type 0} (test : A → Bool) (P : A → Type 0) → ((x : A) → Decides (test x) (P x)) → (xs : List A) → Decides (list_any test xs) (AnyOf P xs)
+any_tells test P tells [] = (λ e. absurd cc, λ x. absurd x.1)
+any_tells test P tells (x ∷ xs) =
+    let later = any_tells test P tells xs in (
+      λ e. ⊎_elim (λ y. (x, inl refl, (tells x).0 y)) (λ y. let z = later.0 y in (z.0, inr z.1, z.2)) (or_cases (test x) (list_any test xs) e),
+      λ z.
+          ⊎_elim
+          (λ e. or_left (test x) (list_any test xs) ((tells x).1 (subst P e z.2)))
+          (λ m. or_right (test x) (list_any test xs) (later.1 (z.0, m, z.2)))
+          z.1,
+    )
+
 pub distinct_append : (xs ys : List ℕ) → Distinct xs → Distinct ys → ((o : ℕ) → Mem o xs → Mem o ys → ⊥) → Distinct (xs ++ ys)
 distinct_append [] ys p q apart = q
 distinct_append (x ∷ xs) ys p q apart =
@@ -114,7 +140,7 @@ module _ {A : Type 0} (test : A → Bool) (P : A → Type 0) where
       ))
       (cases_Bool (test x))
 
-  pub place_some : (xs : List A) → Agree xs → (i : ℕ) → ((j : ℕ) × (first_place test i xs ≡ Some j)) ↔ ((x : A) × Mem x xs × P x)
+  pub place_some : (xs : List A) → Agree xs → (i : ℕ) → ((j : ℕ) × (first_place test i xs ≡ Some j)) ↔ AnyOf P xs
   place_some [] g i = (λ e. absurd (not_some_none e.0 e.1 refl), λ x. absurd x.1)
   place_some (x ∷ xs) g i =
       let later = place_some xs (λ y m. g y (inr m)) (suc i) in

@@ -6,7 +6,7 @@ use Rattle.std.proofs.lemmas.Bool.Decides.{Decides-eqb}
 use Rattle.catalog.specs.Catalog.{Catalog, Each}
 use Rattle.catalog.specs.Shape.{Name}
 use Rattle.unfolding.specs.Lists.{Mem, Distinct}
-use Rattle.life.specs.Calls.{Declared, of_oid, of_name, array_of, resolve, array_link, with_array, entry_requests, all_requests, requests, ArrayIn}
+use Rattle.life.specs.Calls.{Declared, of_oid, of_name, array_of, resolve, array_link, with_array, entry_requests, all_requests, requests, IsArrayOf, DeclaresArray}
 use Rattle.life.specs.Life.{Agrees}
 use Rattle.life.specs.Lists.{is_in, fresh}
 use Rattle.life.specs.RoundOne.{Question, in_full, for_array, asked_in_full, for_arrays_alone, miscoded, refusable, lead, link, in_full_if, element_asks, entry_asks, all_asks, spared, asked_once, round_one, ReadApart}
@@ -17,7 +17,7 @@ use Rattle.life.specs.Walk.{answered, malformed}
 use Rattle.life.proofs.Asking.{each_mem}
 use Rattle.life.proofs.Fresh.{fresh_has, has_fresh, fresh_distinct}
 use Rattle.life.proofs.Known.{known_not, answered_tells}
-use Rattle.life.proofs.Lists.{split_option, is_none_if, none_not_some, mem_left, mem_right, mem_split, distinct_append}
+use Rattle.life.proofs.Lists.{split_option, is_none_if, none_not_some, flat_mem, distinct_append}
 use Rattle.life.proofs.Standing.{earlier_stands, stands_unknown, earlier_distinct}
 use Rattle.life.proofs.Tells.{or_first, or_next}
 
@@ -150,34 +150,25 @@ module _ (c : Catalog) (b : Book) where
     mem_element : (x : Option ℕ) (e : ℕ) → x ≡ Some e → Mem (for_array e) (element_asks c b x) × Mem (in_full e) (element_asks c b x)
     mem_element x e q = subst (λ y. Mem (for_array e) (element_asks c b y) × Mem (in_full e) (element_asks c b y)) (sym q) (inr (inl refl), inl refl)
 
-    -- an element that is read apart is an element of a declared array
-    alone_in : (ds : List Declared) (e : ℕ) → Mem (for_array e) (all_asks c b ds) → ArrayIn c ds e
-    alone_in [] e m = absurd m
-    alone_in (of_oid o ∷ ds) e m = alone_in ds e m
-    alone_in (of_name n ∷ ds) e m =
-        ⊎_elim (λ y. absurd (not_alone (lead c b n) e y)) (alone_in ds e) (mem_split (for_array e) (in_full_if c b (lead c b n)) (all_asks c b ds) m)
-    alone_in (array_of n ∷ ds) e m =
-        ⊎_elim
-        (λ y. inl (sym (lead_is n) ∙ element_mem (lead c b n) e y))
-        (λ y. inr (alone_in ds e y))
-        (mem_split (for_array e) (element_asks c b (lead c b n)) (all_asks c b ds) m)
+    -- an entry asks for the row of an element for its array exactly where it is an array of it, and then in full too
+    entry_alone : (x : Declared) (e : ℕ) → Mem (for_array e) (entry_asks c b x) → IsArrayOf c x e
+    entry_alone (of_oid o) e m = absurd m
+    entry_alone (of_name n) e m = absurd (not_alone (lead c b n) e m)
+    entry_alone (array_of n) e m = sym (lead_is n) ∙ element_mem (lead c b n) e m
 
-    -- an element of a declared array is asked for both ways
-    in_both : (ds : List Declared) (e : ℕ) → ArrayIn c ds e → Mem (for_array e) (all_asks c b ds) × Mem (in_full e) (all_asks c b ds)
-    in_both [] e m = absurd m
-    in_both (of_oid o ∷ ds) e m = in_both ds e m
-    in_both (of_name n ∷ ds) e m =
-        let h = in_both ds e m in
-        let xs : List Question = in_full_if c b (lead c b n) in
-        (mem_right (for_array e) xs (all_asks c b ds) h.0, mem_right (in_full e) xs (all_asks c b ds) h.1)
-    in_both (array_of n ∷ ds) e (inl q) =
-        let h = mem_element (lead c b n) e (lead_is n ∙ q) in
-        let xs : List Question = element_asks c b (lead c b n) in
-        (mem_left (for_array e) xs (all_asks c b ds) h.0, mem_left (in_full e) xs (all_asks c b ds) h.1)
-    in_both (array_of n ∷ ds) e (inr m) =
-        let h = in_both ds e m in
-        let xs : List Question = element_asks c b (lead c b n) in
-        (mem_right (for_array e) xs (all_asks c b ds) h.0, mem_right (in_full e) xs (all_asks c b ds) h.1)
+    entry_both : (x : Declared) (e : ℕ) → IsArrayOf c x e → Mem (for_array e) (entry_asks c b x) × Mem (in_full e) (entry_asks c b x)
+    entry_both (of_oid o) e m = absurd m
+    entry_both (of_name n) e m = absurd m
+    entry_both (array_of n) e m = mem_element (lead c b n) e (lead_is n ∙ m)
+
+    alone_in : (ds : List Declared) (e : ℕ) → Mem (for_array e) (all_asks c b ds) → DeclaresArray c (resolve ds) e
+    alone_in ds e m = let x = (flat_mem (entry_asks c b) ds (for_array e)).0 m in (x.0, x.1, entry_alone x.0 e x.2)
+
+    in_both : (ds : List Declared) (e : ℕ) → DeclaresArray c (resolve ds) e → Mem (for_array e) (all_asks c b ds) × Mem (in_full e) (all_asks c b ds)
+    in_both ds e x = (
+      (flat_mem (entry_asks c b) ds (for_array e)).1 (x.0, x.1, (entry_both x.0 e x.2).0),
+      (flat_mem (entry_asks c b) ds (in_full e)).1 (x.0, x.1, (entry_both x.0 e x.2).1),
+    )
 
     module _ (ds : List Declared) where
       abbrev rs : List ℕ
@@ -206,7 +197,7 @@ module _ (c : Catalog) (b : Book) where
       )
 
       -- the element of a declared array that the book does not hold is read, in full or apart
-      pub element_read : (e : ℕ) → ArrayIn c ds e → b.arrays e ≡ None → Mem e (asked_in_full qs) ⊎ Mem e (for_arrays_alone qs)
+      pub element_read : (e : ℕ) → DeclaresArray c (resolve ds) e → b.arrays e ≡ None → Mem e (asked_in_full qs) ⊎ Mem e (for_arrays_alone qs)
       element_read e m z =
           ⊎_elim
           (λ y. inr ((alone_apart e).1 (m, (answered_tells b.descriptors e).0 y, z)))

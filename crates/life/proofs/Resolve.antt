@@ -2,13 +2,12 @@
 -- Assumes nothing.
 use Rattle.std.proofs.Common.{◌≡◌, ℕ, suc, Bool, true, false, cond, not, ◌&&◌, ◌||◌, ◌↔◌, List, [], ◌∷◌, ◌++◌, length, is_some, Some, None, Option, option_to_list, sym, refl, ap, ◌∙◌, subst, inl, inr, ⊎_elim, arith}
 use Rattle.std.proofs.lemmas.Bool.{not-true, or_cases, or_left, or_right}
-use Rattle.std.specs.List.{list_any}
 use Rattle.std.specs.Option.{option_or}
 use Rattle.catalog.specs.Catalog.{Catalog, Laws}
 use Rattle.catalog.specs.Shape.{Name}
 use Rattle.unfolding.specs.Lists.{Mem}
-use Rattle.life.specs.Calls.{Declared, of_oid, of_name, array_of, resolve, array_link, entry_requests, all_requests, requests}
-use Rattle.life.specs.Keep.{array_in, kept_names, kept, call_event}
+use Rattle.life.specs.Calls.{Declared, of_oid, of_name, array_of, resolve, array_link, entry_requests, requests}
+use Rattle.life.specs.Keep.{kept_names, kept, call_event}
 use Rattle.life.specs.Life.{Lived, Agrees}
 use Rattle.life.specs.Lists.{is_in, first_place}
 use Rattle.life.specs.Outcomes.{Outcome, if_fits, concluded, unresolved, Fits, RefusedAtFirst}
@@ -16,20 +15,21 @@ use Rattle.life.specs.Resolve.{link_from, entry_oid, oids, offends, lacks, resol
 use Rattle.life.specs.RoundOne.{asked_in_full, for_arrays_alone, lead, entry_asks, round_one, resolve_walk}
 use Rattle.life.specs.Rounds.{Descriptors, StandsOnce}
 use Rattle.life.specs.Settle.{settled}
-use Rattle.life.specs.Steps.{Book, Ending, refused, rounds_told, accepts, keeps_finds, TellsTypeRounds, Event, SomeStands, Step}
+use Rattle.life.specs.Steps.{Book, Ending, refused, rounds_told, accepts, keeps_finds, TellsTypeRounds, Event, NamesStand, Step}
+use Rattle.life.specs.Tests.{declares_array}
 use Rattle.life.specs.Walk.{Walked, ended, stopped}
 use Rattle.life.proofs.First.{Stop, Come, resolve_come}
 use Rattle.life.proofs.Keep.{settled_leads, keeping_step, lives_on}
 use Rattle.life.proofs.Life.{fit, agrees}
-use Rattle.life.proofs.Lists.{not_both, not_some_none, split_option, same_truth, in_mem, mem_in, mem_left, mem_right, place_yes, place_no, place_some}
+use Rattle.life.proofs.Lists.{not_both, not_some_none, split_option, same_truth, in_mem, mem_in, flat_mem, any_tells, place_yes, place_no, place_some}
 use Rattle.life.proofs.Outcomes.{Bare, offence_bare, Next, refusal_next, fitted_next, fits_so, refused_first, unresolved_tells}
 use Rattle.life.proofs.Questions.{lead_is, link_is, entry_full, round_full, alone_apart, element_read}
 use Rattle.life.proofs.Standing.{layer_stands}
-use Rattle.life.proofs.Tells.{or_first, array_tells}
+use Rattle.life.proofs.Tells.{or_first, declares_array_tells}
 use Rattle.life.proofs.Walk.{Ended, ended_counts, ended_reads}
 
 module _ (c : Catalog) (b : Book) (agree : Agrees c b) (ds : List Declared) (n : ℕ) (reads : List ℕ)
-    (e : Ended c b.descriptors (requests c (resolve ds)) (SomeStands c b ds) (length (for_arrays_alone (round_one c b ds))) n reads) where
+    (e : Ended c b.descriptors (requests c (resolve ds)) (NamesStand c b (resolve ds)) (length (for_arrays_alone (round_one c b ds))) n reads) where
   abbrev rs : List ℕ
   rs = requests c (resolve ds)
 
@@ -37,12 +37,12 @@ module _ (c : Catalog) (b : Book) (agree : Agrees c b) (ds : List Declared) (n :
   alone = for_arrays_alone (round_one c b ds)
 
   pub read_so : (o : ℕ) → Mem o reads ↔ StandsOnce c b.descriptors rs o
-  read_so = ended_reads c b.descriptors rs (SomeStands c b ds) (length alone) n reads e
+  read_so = ended_reads c b.descriptors rs (NamesStand c b (resolve ds)) (length alone) n reads e
 
   -- where the book holds no array, the rows read for one are those of declared elements
-  read_link : (k : ℕ) → b.arrays k ≡ None → (is_in k reads || array_in c ds k) ≡ (is_in k reads || is_in k alone)
+  read_link : (k : ℕ) → b.arrays k ≡ None → (is_in k reads || declares_array c (resolve ds) k) ≡ (is_in k reads || is_in k alone)
   read_link k z =
-      same_truth (is_in k reads || array_in c ds k) (is_in k reads || is_in k alone)
+      same_truth (is_in k reads || declares_array c (resolve ds) k) (is_in k reads || is_in k alone)
       (λ t.
       ⊎_elim
       (λ y. or_left (is_in k reads) (is_in k alone) y)
@@ -50,18 +50,18 @@ module _ (c : Catalog) (b : Book) (agree : Agrees c b) (ds : List Declared) (n :
       ⊎_elim
       (λ m. or_left (is_in k reads) (is_in k alone) (mem_in k reads ((read_so k).1 (1, layer_stands c b.descriptors rs 0 k (subst (Mem k) (round_full c b agree ds) m)))))
       (λ m. or_right (is_in k reads) (is_in k alone) (mem_in k alone m))
-      (element_read c b agree ds k ((array_tells c ds k).0 y) z))
-      (or_cases (is_in k reads) (array_in c ds k) t))
+      (element_read c b agree ds k ((declares_array_tells c (resolve ds) k).0 y) z))
+      (or_cases (is_in k reads) (declares_array c (resolve ds) k) t))
       (λ t.
       ⊎_elim
-      (λ y. or_left (is_in k reads) (array_in c ds k) y)
-      (λ y. or_right (is_in k reads) (array_in c ds k) ((array_tells c ds k).1 ((alone_apart c b agree ds k).0 (in_mem k alone y)).0))
+      (λ y. or_left (is_in k reads) (declares_array c (resolve ds) k) y)
+      (λ y. or_right (is_in k reads) (declares_array c (resolve ds) k) ((declares_array_tells c (resolve ds) k).1 ((alone_apart c b agree ds k).0 (in_mem k alone y)).0))
       (or_cases (is_in k reads) (is_in k alone) t))
 
   abbrev linked_if : ℕ → Bool → Option ℕ
   linked_if k t = option_or (b.arrays k) (cond t (array_link (c.rows k)) None)
 
-  same_link : (k : ℕ) → linked_if k (is_in k reads || array_in c ds k) ≡ linked_if k (is_in k reads || is_in k alone)
+  same_link : (k : ℕ) → linked_if k (is_in k reads || declares_array c (resolve ds) k) ≡ linked_if k (is_in k reads || is_in k alone)
   same_link k =
       ⊎_elim
       (λ z. ap (linked_if k) (read_link k z))
@@ -130,7 +130,7 @@ module _ (full : Book → Option ℕ) (h : List Event) (c : Catalog) (b : Book) 
       fitted_next c b (resolve ds) laws (full left) (record { ending = e; left = left }) n g.0.2
       (subst (λ (k : Book). Step (call_event c (resolve ds) e) b k) (same_book c b agree ds n reads g.0.0 (accepts e))
       (keeping_step h c b (resolve ds) e reads n laws l (read_so c b agree ds n reads g.0.0)
-      (ended_counts c b.descriptors (requests c (resolve ds)) (SomeStands c b ds) (length (for_arrays_alone (round_one c b ds))) n reads g.0.0)
+      (ended_counts c b.descriptors (requests c (resolve ds)) (NamesStand c b (resolve ds)) (length (for_arrays_alone (round_one c b ds))) n reads g.0.0)
       (closing_keeps n x y) (closing_tells n x y) (omega (arith, closing_told n x y, g.0.2))))
   resolve_next (stopped n p r) g = refusal_next c b (resolve ds) laws n p r (stop_bare n p r g.0) g.1
     where
@@ -213,22 +213,6 @@ written_law full h c b ds l e =
     (none_lacks c b (agrees h c b l) d 0 ds (accepted_lacks full c b ds (resolve_walk c b ds) e))
 
 -- refusals 9 and 10
-any_mem : (test : ℕ → Bool) (os : List ℕ) → (list_any test os ≡ true) ↔ ((o : ℕ) × Mem o os × (test o ≡ true))
-any_mem test [] = (λ e. absurd cc, λ x. absurd x.1)
-any_mem test (p ∷ os) = (
-  λ e. ⊎_elim (λ y. (p, inl refl, y)) (λ y. let r = (any_mem test os).0 y in (r.0, inr r.1, r.2)) (or_cases (test p) (list_any test os) e),
-  λ x.
-      ⊎_elim
-      (λ q. or_left (test p) (list_any test os) (ap test (sym q) ∙ x.2))
-      (λ m. or_right (test p) (list_any test os) ((any_mem test os).1 (x.0, m, x.2)))
-      x.1,
-)
-
-requests_have : (c : Catalog) (ds : List Declared) (x : Declared) (o : ℕ) → Mem x ds → Mem o (entry_requests c x) → Mem o (all_requests c ds)
-requests_have c [] x o m k = absurd m
-requests_have c (y ∷ ds) x o (inl e) k = mem_left o (entry_requests c y) (all_requests c ds) (subst (λ v. Mem o (entry_requests c v)) e k)
-requests_have c (y ∷ ds) x o (inr m) k = mem_right o (entry_requests c y) (all_requests c ds) (requests_have c ds x o m k)
-
 module _ (full : Book → Option ℕ) (h : List Event) (c : Catalog) (b : Book) (ds : List Declared) (l : Lived h c b) (n : ℕ) (reads : List ℕ)
     (w : resolve_walk c b ds ≡ ended n reads) (fits : Fits (resolve_outcome full c b ds).ending n) where
   abbrev d : Descriptors
@@ -251,12 +235,14 @@ module _ (full : Book → Option ℕ) (h : List Event) (c : Catalog) (b : Book) 
       let agree = agrees h c b l in
       let come = subst (Come c b agree ds) w (resolve_come c b agree ds) in
       let test = unresolved_tells c b.descriptors (requests c (resolve ds)) (fit h c b l).sound reads (read_so c b agree ds n reads come.0.0) in
-      let any = any_mem (unresolved c d) (asked_in_full (entry_asks c b x)) in (
+      let due : ℕ → Type 0 = λ o. unresolved c d o ≡ true in
+      let any = any_tells (unresolved c d) due (λ o. (λ t. t, λ t. t)) (asked_in_full (entry_asks c b x)) in
+      let requested : (o : ℕ) → Mem o (entry_requests c x) → Mem o (requests c (resolve ds)) = λ o k. (flat_mem (entry_requests c) ds o).1 (x, m, k) in (
         λ t.
             let r = any.0 t in
             let k = subst (Mem r.0) (entry_full c b agree x) r.1 in
-            (r.0, k, (test r.0 (requests_have c ds x r.0 m k)).0 r.2),
-        λ z. any.1 (z.0, subst (Mem z.0) (sym (entry_full c b agree x)) z.1, (test z.0 (requests_have c ds x z.0 m z.1)).1 z.2),
+            (r.0, k, (test r.0 (requested r.0 k)).0 r.2),
+        λ z. any.1 (z.0, subst (Mem z.0) (sym (entry_full c b agree x)) z.1, (test z.0 (requested z.0 z.1)).1 z.2),
       )
 
   pub refused_nine : RefusedAtFirst (resolve_outcome full c b ds).ending 9 n (EntryUnresolved c) ds

@@ -8,7 +8,7 @@ use Rattle.keys.specs.Senses.{Pair}
 use Rattle.unfolding.specs.Unfolding.{node}
 use Rattle.life.specs.Bind.{column_questions, types_book, columns_book, column_round, types_settled, bind_settled, bind_outcome}
 use Rattle.life.specs.Calls.{Declared, Binding, Call, fill, resolve, bind, describe, requests}
-use Rattle.life.specs.Fill.{closing, settled_outcome, outcome}
+use Rattle.life.specs.Fill.{closing, quiet_settled, quiet_outcome}
 use Rattle.life.specs.Keep.{pretty_in, kept, call_event}
 use Rattle.life.specs.Life.{Lived, Agrees}
 use Rattle.life.specs.Lists.{first_place}
@@ -18,7 +18,7 @@ use Rattle.life.specs.RoundOne.{asked_oid, for_arrays_alone, refusable, round_on
 use Rattle.life.specs.Rounds.{Descriptors, Stands, LastRound}
 use Rattle.life.specs.Run.{TurnedAway, perform, Done, Performed, CountedRun, RoundsLaw, PerformLaw, RunLaw}
 use Rattle.life.specs.Settle.{settled}
-use Rattle.life.specs.Steps.{Book, Ending, accepted, refused, rounds_told, accepts, keeps_finds, Event, SomeStands, LastOfCall, Step}
+use Rattle.life.specs.Steps.{Book, Ending, accepted, refused, rounds_told, accepts, keeps_finds, Event, NamesStand, LastOfCall, Step}
 use Rattle.life.specs.Stops.{standing, StopsAt, Offence}
 use Rattle.life.specs.Walk.{malformed, Walked, ended, stopped, walk_from}
 use Rattle.life.proofs.Bind.{bind_step}
@@ -74,9 +74,9 @@ module _ (full full_columns : Book → Option ℕ) (c : Catalog) (b : Book) (k :
   walk_rounds rs next tell (ended n reads) r t = subst (LastRound c b.descriptors rs ⊥) (tell n reads r.2 t) (ended_counts c b.descriptors rs ⊥ 0 n reads r.0)
   walk_rounds rs next tell (stopped n p m) r t = absurd (not_late n (offence_early c b.descriptors rs 0 n p m r.0) t.0)
 
-  fill_rounds : (rs : List ℕ) → TypeRounds (outcome full c b (fill rs)).ending k → LastRound c b.descriptors rs ⊥ k
+  fill_rounds : (rs : List ℕ) → TypeRounds (quiet_outcome full c b (fill rs)).ending k → LastRound c b.descriptors rs ⊥ k
   fill_rounds rs =
-      walk_rounds rs (settled_outcome full c b (fill rs))
+      walk_rounds rs (quiet_settled full c b (fill rs))
       (λ n reads _.
       let x : Option ℕ = first_place (unresolved c (settled c b.descriptors reads)) 0 rs in
       let left : Book = kept c (fill rs) reads b (accepts (closing n x)) in
@@ -90,7 +90,7 @@ module _ (full full_columns : Book → Option ℕ) (c : Catalog) (b : Book) (k :
       let y : Option ℕ = first_place (lacks c b (settled c b.descriptors reads)) 0 ds in
       let left : Book = resolve_left full c b ds reads in
       subst (LastOfCall c b (resolve ds)) (fitted_tells (full left) (record { ending = closing_resolve n x y; left = left }) b n k (closing_resolve_tells n x y k) t)
-      (ended_counts c b.descriptors (requests c (resolve ds)) (SomeStands c b ds) (length (for_arrays_alone (round_one c b ds))) n reads g.0.0)
+      (ended_counts c b.descriptors (requests c (resolve ds)) (NamesStand c b (resolve ds)) (length (for_arrays_alone (round_one c b ds))) n reads g.0.0)
   resolve_rounds agree ds (stopped n p m) g t = absurd (not_late n (stop_early g.0) t.0)
     where
       stop_early : Stop c b agree ds n p m → Early n

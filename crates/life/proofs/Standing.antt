@@ -8,7 +8,7 @@ use Rattle.life.specs.Rounds.{Descriptors, Unknown, Layer, Before, Stands, Stand
 use Rattle.life.specs.Steps.{LedTo}
 use Rattle.life.specs.Stops.{standing, earlier, StandingLaw, QueueLaw}
 use Rattle.life.specs.Walk.{answered, links_of}
-use Rattle.life.proofs.Fresh.{fresh_has, has_fresh, fresh_distinct, pushed, links_have, have_links}
+use Rattle.life.proofs.Fresh.{fresh_has, has_fresh, fresh_distinct, pushed, links_mem}
 use Rattle.life.proofs.Known.{unanswered, unknown_unanswered}
 use Rattle.life.proofs.Lists.{cases_mem, mem_left, mem_right, mem_split, distinct_append}
 
@@ -26,7 +26,7 @@ module _ (c : Catalog) (b : Descriptors) (rs : List ℕ) where
         (h.0, unanswered b o h.1)
     layer_stands (suc k) o m =
         let h = fresh_has nat_eq Decides-eqb (answered b) (links_of c (layer k)) (before k ++ layer k) o m in
-        let l = links_have c (layer k) o h.0 in (
+        let l = (links_mem c (layer k) o).0 h.0 in (
           (l.0, layer_stands k l.0 l.1, l.2),
           unanswered b o h.1,
           λ x. h.2 (mem_left o (before k) (layer k) (before_in k o x)),
@@ -37,7 +37,7 @@ module _ (c : Catalog) (b : Descriptors) (rs : List ℕ) where
     stands_layer zero o h = has_fresh nat_eq Decides-eqb (answered b) rs [] o h.0 (unknown_unanswered b o h.1) (λ x. x)
     stands_layer (suc k) o h =
         has_fresh nat_eq Decides-eqb (answered b) (links_of c (layer k)) (before k ++ layer k) o
-        (have_links c (layer k) h.0.0 o (stands_layer k h.0.0 h.0.1) h.0.2)
+        ((links_mem c (layer k) o).1 (h.0.0, stands_layer k h.0.0 h.0.1, h.0.2))
         (unknown_unanswered b o h.1)
         (λ m. ⊎_elim (λ x. h.2 (in_before k o x)) (λ x. h.3 (layer_stands k o x)) (mem_split o (before k) (layer k) m))
 

@@ -5,8 +5,8 @@ use Rattle.catalog.specs.Catalog.{CatalogColumn}
 use Rattle.catalog.specs.Shape.{Name}
 use Rattle.unfolding.specs.Unfolding.{Unfolds}
 use Rattle.unfolding.proofs.Unfolding.{unique}
-use Rattle.life.specs.Keep.{both, source}
 use Rattle.life.specs.Rounds.{found}
+use Rattle.life.specs.Tests.{both, source}
 use Rattle.life.specs.Written.{settled_as, declared_as, Origin, expression, unknown, table, write_type, origin_found, origin_at, OriginLaw, ExpressionLaw, TypesLaw}
 use Rattle.life.proofs.Known.{found_tells, found_right}
 use Rattle.life.proofs.Life.{fit}

@@ -8,12 +8,13 @@ use Rattle.catalog.specs.Catalog.{Catalog, Laws}
 use Rattle.keys.specs.Senses.{Pair, same_pair}
 use Rattle.unfolding.specs.Lists.{Mem, Distinct}
 use Rattle.life.specs.Calls.{Binding, Call, bind, requests, AsksColumn}
-use Rattle.life.specs.Keep.{sources, kept, LivesOn}
+use Rattle.life.specs.Keep.{kept, LivesOn}
 use Rattle.life.specs.Life.{Lived}
 use Rattle.life.specs.Lists.{fresh_by, first_place}
 use Rattle.life.specs.Outcomes.{Outcome, fitted, if_fits, concluded, unresolved, Unresolved, Fits, RefusedAtFirst}
 use Rattle.life.specs.Settle.{settled}
 use Rattle.life.specs.Steps.{Book, Ending, accepted, refused, accepts, Event, KeepsColumns}
+use Rattle.life.specs.Tests.{sources}
 use Rattle.life.specs.Walk.{ended, walk_from}
 
 -- the columns to ask for: those that a field comes from and the book does not hold, each once, in order

@@ -1,9 +1,9 @@
 -- The calls that a book meets, and what each requests.
 -- Assumes nothing.
-use Rattle.std.specs.Prelude.{◌≡◌, ℕ, Bool, true, ◌⊎◌, List, [], ◌∷◌, ◌++◌, map, ℤ, if◌then◌else◌, Some, None, flat_map, Option, option_to_list}
+use Rattle.std.specs.Prelude.{◌≡◌, ℕ, Bool, true, List, [], ◌∷◌, ◌++◌, map, ℤ, if◌then◌else◌, Some, None, flat_map, Option, option_to_list}
 use Rattle.catalog.specs.Catalog.{CatalogRow, Catalog}
 use Rattle.catalog.specs.Shape.{Name}
-use Rattle.unfolding.specs.Lists.{Mem}
+use Rattle.life.specs.Lists.{AnyOf}
 
 -- an entry of Resolve: an OID, a name, or the array of an element's name
 pub data Declared : Type 0 where
@@ -54,40 +54,37 @@ requests c (resolve ds) = all_requests c ds
 requests c (bind q) = if q.queries then q.parameters ++ map (λ f. f.oid) q.fields else []
 requests c (describe o) = []
 
--- n is a name, or an element's name, that the call declares
-abbrev pub NamedIn : List Declared → Name → Type 0
-NamedIn [] n = ⊥
-NamedIn (of_oid o ∷ ds) n = NamedIn ds n
-NamedIn (of_name m ∷ ds) n = (m ≡ n) ⊎ NamedIn ds n
-NamedIn (array_of m ∷ ds) n = (m ≡ n) ⊎ NamedIn ds n
+-- n is the name, or the element's name, of an entry
+abbrev pub Names : Declared → Name → Type 0
+Names (of_oid o) n = ⊥
+Names (of_name m) n = m ≡ n
+Names (array_of m) n = m ≡ n
 
+-- an entry is an array of e
+abbrev pub IsArrayOf : Catalog → Declared → ℕ → Type 0
+IsArrayOf c (of_oid o) e = ⊥
+IsArrayOf c (of_name m) e = ⊥
+IsArrayOf c (array_of m) e = c.named m ≡ Some e
+
+-- a field comes from attribute a of relation r
+abbrev pub ComesFrom : Field → ℕ → ℤ → Type 0
+ComesFrom f r a = (f.relation ≡ Some r) × (f.attribute ≡ Some a)
+
+-- the call declares this name, and an array of this element; and it may ask for this column
 abbrev pub Declares : Call → Name → Type 0
 Declares (fill os) n = ⊥
-Declares (resolve ds) n = NamedIn ds n
+Declares (resolve ds) n = AnyOf (λ x. Names x n) ds
 Declares (bind q) n = ⊥
 Declares (describe o) n = ⊥
 
--- the call declares an array of e
-abbrev pub ArrayIn : Catalog → List Declared → ℕ → Type 0
-ArrayIn c [] e = ⊥
-ArrayIn c (of_oid o ∷ ds) e = ArrayIn c ds e
-ArrayIn c (of_name m ∷ ds) e = ArrayIn c ds e
-ArrayIn c (array_of m ∷ ds) e = (c.named m ≡ Some e) ⊎ ArrayIn c ds e
-
 abbrev pub DeclaresArray : Catalog → Call → ℕ → Type 0
 DeclaresArray c (fill os) e = ⊥
-DeclaresArray c (resolve ds) e = ArrayIn c ds e
+DeclaresArray c (resolve ds) e = AnyOf (λ x. IsArrayOf c x e) ds
 DeclaresArray c (bind q) e = ⊥
 DeclaresArray c (describe o) e = ⊥
-
--- a field comes from attribute a of relation r
-abbrev pub FieldFrom : List Field → ℕ → ℤ → Type 0
-FieldFrom fs r a = (f : Field) × Mem f fs × (f.relation ≡ Some r) × (f.attribute ≡ Some a)
-
--- the column of such a field of the call may be asked for
 
 abbrev pub AsksColumn : Call → ℕ → ℤ → Type 0
 AsksColumn (fill os) r a = ⊥
 AsksColumn (resolve ds) r a = ⊥
-AsksColumn (bind q) r a = (q.queries ≡ true) × (q.origins ≡ true) × FieldFrom q.fields r a
+AsksColumn (bind q) r a = (q.queries ≡ true) × (q.origins ≡ true) × AnyOf (λ f. ComesFrom f r a) q.fields
 AsksColumn (describe o) r a = ⊥

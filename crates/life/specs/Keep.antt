@@ -1,20 +1,20 @@
 -- The book that a step leaves which keeps its finds, computed from what it read.
 -- Assumes nothing.
-use Rattle.std.specs.Prelude.{◌≡◌, ℕ, ◌-◌, ◌≤◌, Bool, true, false, ◌&&◌, ◌||◌, ◌↔◌, List, [], ◌∷◌, ℤ, is_some, if◌then◌else◌, nat_eq, Some, None, bytes_eq, flat_map, Option, option_map, option_to_list, option_and_then}
-use Rattle.std.specs.List.{list_any}
+use Rattle.std.specs.Prelude.{◌≡◌, ℕ, ◌-◌, ◌≤◌, Bool, true, false, ◌&&◌, ◌||◌, ◌↔◌, List, ◌∷◌, is_some, if◌then◌else◌, Some, None, bytes_eq, Option, option_and_then}
 use Rattle.std.specs.Option.{option_or}
 use Rattle.catalog.specs.Catalog.{Catalog, Laws, spent}
 use Rattle.catalog.specs.Shape.{Name}
-use Rattle.keys.specs.Senses.{Pair, same_pair}
 use Rattle.unfolding.specs.Lists.{Mem}
 use Rattle.unfolding.specs.Unfolding.{Tree, built, node}
-use Rattle.life.specs.Calls.{Declared, of_oid, of_name, array_of, Field, Call, fill, resolve, bind, describe, array_link, requests}
+use Rattle.life.specs.Calls.{Call, array_link, requests}
 use Rattle.life.specs.Life.{Lived}
 use Rattle.life.specs.Lists.{is_in}
 use Rattle.life.specs.Rounds.{Descriptors, found, StandsOnce}
 use Rattle.life.specs.Settle.{settled}
 use Rattle.life.specs.Steps.{Book, Ending, rounds_told, accepts, keeps_finds, TellsTypeRounds, Event, LastOfCall}
+use Rattle.life.specs.Tests.{declares, declares_array, asks_column}
 
+-- o, if n is the pretty name of its descriptor
 abbrev pub if_named : Name → ℕ → Tree → Option ℕ
 if_named n o (built p) = None
 if_named n o (node p m head ts) = if bytes_eq m n then Some o else None
@@ -28,53 +28,6 @@ pretty_in d n (Some o) = option_and_then (if_named n o) (d o)
 abbrev pub if_settled : Descriptors → Option ℕ → Option ℕ
 if_settled d None = None
 if_settled d (Some o) = if is_some (found d o) then Some o else None
-
-abbrev pub is_just : {A : Type 0} → (A → A → Bool) → Option A → A → Bool
-is_just same None y = false
-is_just same (Some x) y = same x y
-
-abbrev pub named_in : List Declared → Name → Bool
-named_in [] n = false
-named_in (of_oid o ∷ ds) n = named_in ds n
-named_in (of_name m ∷ ds) n = bytes_eq m n || named_in ds n
-named_in (array_of m ∷ ds) n = bytes_eq m n || named_in ds n
-
-abbrev pub declares : Call → Name → Bool
-declares (fill os) n = false
-declares (resolve ds) n = named_in ds n
-declares (bind q) n = false
-declares (describe o) n = false
-
-abbrev pub array_in : Catalog → List Declared → ℕ → Bool
-array_in c [] e = false
-array_in c (of_oid o ∷ ds) e = array_in c ds e
-array_in c (of_name m ∷ ds) e = array_in c ds e
-array_in c (array_of m ∷ ds) e = is_just nat_eq (c.named m) e || array_in c ds e
-
-abbrev pub declares_array : Catalog → Call → ℕ → Bool
-declares_array c (fill os) e = false
-declares_array c (resolve ds) e = array_in c ds e
-declares_array c (bind q) e = false
-declares_array c (describe o) e = false
-
--- where the fields come from that have a relation and an attribute
-abbrev pub both : Option ℕ → Option ℤ → Option Pair
-both relation attribute = option_and_then (λ r. option_map (λ a. (r, a)) attribute) relation
-
-abbrev pub source : Field → Option Pair
-source f = both f.relation f.attribute
-
-abbrev pub sources : List Field → List Pair
-sources fs = flat_map (λ f. option_to_list (source f)) fs
-
-abbrev pub is_source : List Field → ℕ → ℤ → Bool
-is_source fs r a = list_any (same_pair (r, a)) (sources fs)
-
-abbrev pub asks_column : Call → ℕ → ℤ → Bool
-asks_column (fill os) r a = false
-asks_column (resolve ds) r a = false
-asks_column (bind q) r a = q.queries && (q.origins && is_source q.fields r a)
-asks_column (describe o) r a = false
 
 -- the names held once these descriptors are: those held before, then pretty names, then those declared
 abbrev pub kept_names : Catalog → Call → Descriptors → (Name → Option ℕ) → Name → Option ℕ

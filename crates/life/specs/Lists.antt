@@ -5,6 +5,10 @@ use Rattle.std.specs.Prelude.{◌≡◌, ℕ, suc, ◌≤◌, Bool, true, false,
 use Rattle.std.specs.List.{list_any}
 use Rattle.unfolding.specs.Lists.{Mem, Distinct}
 
+-- some element has P
+abbrev pub AnyOf : {A : Type 0} → (A → Type 0) → List A → Type 0
+AnyOf {A} P xs = (x : A) × Mem x xs × P x
+
 abbrev pub is_in : ℕ → List ℕ → Bool
 is_in o os = list_any (nat_eq o) os
 

@@ -2,9 +2,8 @@
 -- Assumes nothing.
 use Rattle.std.specs.Prelude.{◌≡◌, ℕ, suc, Bool, true, false, not, ◌&&◌, ◌⊎◌, ◌↔◌, List, is_some, Some, None, Option}
 use Rattle.catalog.specs.Catalog.{CatalogRow, Catalog}
-use Rattle.unfolding.specs.Lists.{Mem}
 use Rattle.unfolding.specs.Unfolding.{HasUnfolding}
-use Rattle.life.specs.Lists.{FirstAt}
+use Rattle.life.specs.Lists.{AnyOf, FirstAt}
 use Rattle.life.specs.Rounds.{Descriptors, found}
 use Rattle.life.specs.Steps.{Book, Ending, accepted, refused}
 use Rattle.life.specs.Walk.{Walked, ended, stopped}
@@ -52,5 +51,5 @@ Fits e n = (table : ℕ) → e ≡ refused 8 table false n → ⊥
 
 -- after n rounds it is refused by this number exactly where P holds of an element, and then at the place of the first
 pub record RefusedAtFirst {A : Type 0} (e : Ending) (number n : ℕ) (P : A → Type 0) (xs : List A) : Type 0 where
-  pub if_any : ((place : ℕ) × (e ≡ refused number place false n)) ↔ ((x : A) × Mem x xs × P x)
+  pub if_any : ((place : ℕ) × (e ≡ refused number place false n)) ↔ AnyOf P xs
   pub first : (place : ℕ) → (e ≡ refused number place false n) ↔ FirstAt P 0 xs place

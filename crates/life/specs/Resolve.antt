@@ -8,7 +8,7 @@ use Rattle.unfolding.specs.Lists.{Mem}
 use Rattle.life.specs.Calls.{Declared, of_oid, of_name, array_of, resolve, array_link, entry_requests}
 use Rattle.life.specs.Keep.{if_settled, kept_names, LivesOn}
 use Rattle.life.specs.Life.{Lived}
-use Rattle.life.specs.Lists.{is_in, first_place}
+use Rattle.life.specs.Lists.{AnyOf, is_in, first_place}
 use Rattle.life.specs.Outcomes.{Outcome, if_fits, concluded, unresolved, Unresolved, Fits, RefusedAtFirst}
 use Rattle.life.specs.RoundOne.{asked_in_full, for_arrays_alone, lead, link, entry_asks, round_one, resolve_walk}
 use Rattle.life.specs.Rounds.{Descriptors, Known}
@@ -110,7 +110,7 @@ WrittenLaw =
 
 -- an entry of Resolve with a requested OID that has a row and no unfolding
 abbrev pub EntryUnresolved : Catalog → Declared → Type 0
-EntryUnresolved c x = (o : ℕ) × Mem o (entry_requests c x) × Unresolved c o
+EntryUnresolved c x = AnyOf (Unresolved c) (entry_requests c x)
 
 -- once its rounds have ended and what it keeps fits, it is refused by 9 exactly where an entry has a requested OID that has a row
 -- and no unfolding

@@ -6,11 +6,11 @@ use Rattle.std.specs.Option.{option_or}
 use Rattle.catalog.specs.Catalog.{CatalogRow, Catalog}
 use Rattle.catalog.specs.Shape.{Name, codes_listed}
 use Rattle.unfolding.specs.Lists.{Mem, Distinct}
-use Rattle.life.specs.Calls.{Declared, of_oid, of_name, array_of, resolve, array_link, requests, ArrayIn}
+use Rattle.life.specs.Calls.{Declared, of_oid, of_name, array_of, resolve, array_link, requests, DeclaresArray}
 use Rattle.life.specs.Life.{Lived}
 use Rattle.life.specs.Lists.{is_in, fresh, AtMost}
 use Rattle.life.specs.Rounds.{Known, Stands, StandsOnce, Anything}
-use Rattle.life.specs.Steps.{Book, Event, SomeStands, LastOfCall}
+use Rattle.life.specs.Steps.{Book, Event, NamesStand, LastOfCall}
 use Rattle.life.specs.Stops.{StopsAt, Offence}
 use Rattle.life.specs.Walk.{answered, links_of, malformed, ask_each, Walked, ended, stopped, and_then, walk}
 
@@ -107,7 +107,7 @@ module _ (c : Catalog) (b : Book) where
 module _ (c : Catalog) (b : Book) (ds : List Declared) where
   -- e is an element of a declared array, known, whose array the book does not hold
   abbrev pub ReadApart : ℕ → Type 0
-  ReadApart e = ArrayIn c ds e × Known b.descriptors e × (b.arrays e ≡ None)
+  ReadApart e = DeclaresArray c (resolve ds) e × Known b.descriptors e × (b.arrays e ≡ None)
 
   -- n is the last round; it is at most 64 and within the allowance, no row that stands is malformed, no row read for its typarray
   -- alone has a code that is not listed, and at most 256 rows are to be read
@@ -122,7 +122,7 @@ module _ (c : Catalog) (b : Book) (ds : List Declared) where
   -- it stops in front of its first round, by 5, or in it, at the first row that is one too many or refused
   abbrev pub FirstRound : (number place rounds : ℕ) → Type 0
   FirstRound n p r =
-      ((n ≡ 5) × (p ≡ 1) × (r ≡ 0) × (c.allowance ≡ 0) × Anything c b.descriptors (requests c (resolve ds)) (SomeStands c b ds) 1) ⊎
+      ((n ≡ 5) × (p ≡ 1) × (r ≡ 0) × (c.allowance ≡ 0) × Anything c b.descriptors (requests c (resolve ds)) (NamesStand c b (resolve ds)) 1) ⊎
       ((r ≡ 1) × StopsAt asked_oid (refusable c) 256 (round_one c b ds) n p)
 
 -- the rows that round 1 asks for: in full those of the OIDs that stand in it, for their typarray alone those of the known elements

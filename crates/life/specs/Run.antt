@@ -4,7 +4,7 @@ use Rattle.std.specs.Prelude.{◌≡◌, ℕ, ◌+◌, ◌-◌, false, ◌⊎◌
 use Rattle.catalog.specs.Catalog.{Catalog, Laws, spent, Grows}
 use Rattle.life.specs.Bind.{bind_outcome}
 use Rattle.life.specs.Calls.{Call, fill, resolve, bind, describe}
-use Rattle.life.specs.Fill.{outcome}
+use Rattle.life.specs.Fill.{quiet_outcome}
 use Rattle.life.specs.Life.{Lived, Lawful}
 use Rattle.life.specs.Outcomes.{Outcome, TypeRounds}
 use Rattle.life.specs.Resolve.{resolve_outcome}
@@ -17,7 +17,7 @@ TurnedAway (refused number place columns rounds) = ((number ≡ 1) ⊎ ((number 
 
 module _ (full full_columns : Book → Option ℕ) where
   abbrev pub perform : Catalog → Book → Call → Outcome
-  perform c b (fill rs) = outcome full c b (fill rs)
+  perform c b (fill rs) = quiet_outcome full c b (fill rs)
   perform c b (resolve ds) = resolve_outcome full c b ds
   perform c b (bind q) = bind_outcome full full_columns c b q
   perform c b (describe o) = record { ending = accepted 0 0; left = b }

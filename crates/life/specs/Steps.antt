@@ -1,11 +1,12 @@
 -- A book, how a step ends, and what a step does to the book and the catalog.
 -- Assumes nothing.
-use Rattle.std.specs.Prelude.{◌≡◌, ℕ, ◌+◌, Bool, true, false, ◌&&◌, ◌||◌, ◌⊎◌, ◌↔◌, List, [], ◌∷◌, ℤ, ◌==◌, Some, None, Option}
+use Rattle.std.specs.Prelude.{◌≡◌, ℕ, ◌+◌, Bool, true, false, ◌&&◌, ◌||◌, ◌⊎◌, ◌↔◌, List, ℤ, ◌==◌, Some, None, Option}
 use Rattle.catalog.specs.Catalog.{CatalogColumn, Catalog, Laws, Grows}
 use Rattle.catalog.specs.Shape.{Name, Head}
 use Rattle.unfolding.specs.Lists.{Mem}
 use Rattle.unfolding.specs.Unfolding.{Tree, node, Trees, built_in, Unfolds, Leads}
 use Rattle.life.specs.Calls.{Declared, of_oid, of_name, array_of, Call, fill, resolve, bind, describe, array_link, requests, Declares, DeclaresArray, AsksColumn}
+use Rattle.life.specs.Lists.{AnyOf}
 use Rattle.life.specs.Rounds.{Descriptors, Known, found, StandsOnce, LastRound}
 
 pub record Book : Type 0 where
@@ -63,15 +64,12 @@ wanted e = requests e.before e.call
 abbrev pub NameStands : Catalog → Book → Declared → Type 0
 NameStands c b (of_oid o) = ⊥
 NameStands c b (of_name n) = b.names n ≡ None
-NameStands c b (array_of n) = (b.names n ≡ None) ⊎ ((e : ℕ) × ((b.names n ≡ Some e) ⊎ (c.named n ≡ Some e)) × (b.arrays e ≡ None))
-
-abbrev pub SomeStands : Catalog → Book → List Declared → Type 0
-SomeStands c b [] = ⊥
-SomeStands c b (d ∷ ds) = NameStands c b d ⊎ SomeStands c b ds
+NameStands c b (array_of n) =
+    (b.names n ≡ None) ⊎ ((e : ℕ) × ((b.names n ≡ Some e) ⊎ (c.named n ≡ Some e)) × (b.arrays e ≡ None))
 
 abbrev pub NamesStand : Catalog → Book → Call → Type 0
 NamesStand c b (fill os) = ⊥
-NamesStand c b (resolve ds) = SomeStands c b ds
+NamesStand c b (resolve ds) = AnyOf (NameStands c b) ds
 NamesStand c b (bind q) = ⊥
 NamesStand c b (describe o) = ⊥
 

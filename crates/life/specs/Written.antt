@@ -6,11 +6,11 @@ use Rattle.catalog.specs.Shape.{Name}
 use Rattle.keys.specs.Senses.{Pair}
 use Rattle.unfolding.specs.Unfolding.{Tree, Unfolds}
 use Rattle.life.specs.Calls.{Field, Binding}
-use Rattle.life.specs.Keep.{source}
 use Rattle.life.specs.Life.{Lived}
 use Rattle.life.specs.Outcomes.{Outcome}
 use Rattle.life.specs.Rounds.{Known, found}
 use Rattle.life.specs.Steps.{Book, accepts, Event}
+use Rattle.life.specs.Tests.{source}
 
 -- a type: its OID, settled or as declared
 pub data WrittenType : Type 0 where

@@ -7,7 +7,7 @@ use Rattle.unfolding.specs.Unfolding.{Tree, built, node, none, more}
 use Rattle.life.specs.Calls.{Declared, of_oid, of_name, array_of, Field, Binding, fill}
 use Rattle.life.specs.Steps.{Book, empty_book, accepted, refused}
 use Rattle.life.specs.Outcomes.{Outcome}
-use Rattle.life.specs.Fill.{outcome}
+use Rattle.life.specs.Fill.{quiet_outcome}
 use Rattle.life.specs.Resolve.{resolve_outcome, resolve_writes}
 use Rattle.life.specs.Bind.{bind_outcome}
 use Rattle.life.specs.Written.{WrittenType, settled_as, declared_as, expression, unknown, table, BindAnswers, bind_writes}
@@ -18,7 +18,7 @@ abbrev pub room : Book → Option ℕ
 room b = None
 
 abbrev pub filled : Catalog → Book → List ℕ → Outcome
-filled c b rs = outcome room c b (fill rs)
+filled c b rs = quiet_outcome room c b (fill rs)
 
 abbrev pub resolved : Catalog → Book → List Declared → Outcome
 resolved c b ds = resolve_outcome room c b ds
