@@ -35,10 +35,12 @@ abbrev pub array_link : Option CatalogRow → Option ℕ
 array_link None = None
 array_link (Some r) = r.typarray
 
+-- an element's OID, and that of its array
 abbrev pub with_array : Catalog → Option ℕ → List ℕ
 with_array c None = []
 with_array c (Some e) = e ∷ option_to_list (array_link (c.rows e))
 
+-- what an entry of Resolve wants, and all of them
 abbrev pub entry_requests : Catalog → Declared → List ℕ
 entry_requests c (of_oid o) = []
 entry_requests c (of_name n) = option_to_list (c.named n)

@@ -11,6 +11,7 @@ use Rattle.life.specs.Settle.{settled}
 use Rattle.life.specs.Steps.{Book, Ending, accepted, refused, accepts, Event, NamesStand}
 use Rattle.life.specs.Walk.{ended, walk_from}
 
+-- accepted, or refused by 9 at this place
 abbrev pub closing : ℕ → Option ℕ → Ending
 closing n None = accepted n 0
 closing n (Some place) = refused 9 place false n

@@ -43,12 +43,13 @@ kept c call reads b done = record {
   columns = λ r a. option_or (b.columns r a) (if done && asks_column call r a then c.columns r a else None);
 }
 
+-- the call on this catalog, which ended so and lost the rounds told
 abbrev pub call_event : Catalog → Call → Ending → Event
 call_event c call e = record { before = c; after = spent c (c.allowance - rounds_told e); call = call; ending = e }
 
 -- a call that ended so on the book of a life, which it left as b', makes the life longer
 abbrev pub LivesOn : List Event → Catalog → Call → Ending → Book → Type 0
-LivesOn h c call e b' = Lived (call_event c call e ∷ h) (spent c (c.allowance - rounds_told e)) b'
+LivesOn h c call e b' = let event : Event = call_event c call e in Lived (event ∷ h) event.after b'
 
 -- whatever way a call took: if it read what stands, and tells the last round wherever it tells type rounds, then keeping this book
 -- is one more step of any life

@@ -1,5 +1,5 @@
--- Lists: a test of membership, each element once, how many numbers have a property, and the place of the first element that has
--- one.
+-- Lists: what some element has, a test of membership, each element once, how many numbers have a property, and the place of the
+-- first element that has one.
 -- Assumes nothing.
 use Rattle.std.specs.Prelude.{◌≡◌, ℕ, suc, ◌≤◌, Bool, true, false, ◌||◌, ◌⊎◌, List, [], ◌∷◌, ◌++◌, length, nat_eq, Some, None, Option}
 use Rattle.std.specs.List.{list_any}
@@ -9,6 +9,7 @@ use Rattle.unfolding.specs.Lists.{Mem, Distinct}
 abbrev pub AnyOf : {A : Type 0} → (A → Type 0) → List A → Type 0
 AnyOf {A} P xs = (x : A) × Mem x xs × P x
 
+-- o is in the list
 abbrev pub is_in : ℕ → List ℕ → Bool
 is_in o os = list_any (nat_eq o) os
 

@@ -14,6 +14,7 @@ pub data Read : Type 0 where
   reading : (queue apart : List ℕ) (left : ℕ) → Read
   halted : ℕ → ℕ → Read
 
+-- what follows where no row was refused
 abbrev pub then_read : Read → (List ℕ → List ℕ → ℕ → Read) → Read
 then_read (reading queue apart left) next = next queue apart left
 then_read (halted number place) next = halted number place
@@ -24,6 +25,7 @@ read_row o zero bad next = halted 7 o
 read_row o (suc left) bad next = elim bad [ true ↦ halted 6 o | false ↦ next left ]
 
 module _ (c : Catalog) (b : Book) where
+  -- one question, and one after the other
   abbrev pub read_question : Question → List ℕ → List ℕ → ℕ → Read
   read_question (in_full o) queue apart left =
       elim (answered b.descriptors o || is_in o queue)
@@ -41,6 +43,7 @@ module _ (c : Catalog) (b : Book) where
   read_entries [] queue apart left = reading queue apart left
   read_entries (x ∷ xs) queue apart left = then_read (read_all (entry_asks c b x) queue apart left) (read_entries xs)
 
+-- the lists of a round, or its refusal
 abbrev pub summed : Asked → List ℕ → List ℕ → Read
 summed (all_read left) queue apart = reading queue apart left
 summed (stop number place) queue apart = halted number place

@@ -17,6 +17,7 @@ use Rattle.life.specs.Steps.{Book, Ending, accepted, refused, accepts, Event}
 use Rattle.life.specs.Walk.{ended}
 
 module _ (c : Catalog) (b : Book) where
+  -- the array of an element that may be there
   abbrev pub link_from : Option ℕ → Option ℕ
   link_from e = option_and_then (link c b) e
 
@@ -26,6 +27,7 @@ module _ (c : Catalog) (b : Book) where
   entry_oid d (of_name n) = if_settled d (lead c b n)
   entry_oid d (array_of n) = if_settled d (link_from (lead c b n))
 
+  -- those of the entries that have one
   abbrev pub oids : Descriptors → List Declared → List ℕ
   oids d ds = flat_map (λ x. option_to_list (entry_oid d x)) ds
 
@@ -33,6 +35,7 @@ module _ (c : Catalog) (b : Book) where
   abbrev pub offends : Descriptors → Declared → Bool
   offends d x = list_any (unresolved c d) (asked_in_full (entry_asks c b x))
 
+  -- the entry has no OID
   abbrev pub lacks : Descriptors → Declared → Bool
   lacks d x = not (is_some (entry_oid d x))
 

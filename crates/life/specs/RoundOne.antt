@@ -19,6 +19,7 @@ pub data Question : Type 0 where
   in_full : ℕ → Question
   for_array : ℕ → Question
 
+-- the OID of a question, and of a list those in full and those for arrays alone
 abbrev pub asked_oid : Question → ℕ
 asked_oid (in_full o) = o
 asked_oid (for_array e) = e
@@ -43,6 +44,7 @@ abbrev pub refusable : Catalog → Question → Bool
 refusable c (in_full o) = malformed c o
 refusable c (for_array e) = miscoded (c.rows e)
 
+-- there is one
 abbrev pub any_question : List Question → Bool
 any_question [] = false
 any_question (q ∷ qs) = true
@@ -56,6 +58,7 @@ module _ (c : Catalog) (b : Book) where
   abbrev pub link : ℕ → Option ℕ
   link e = option_or (b.arrays e) (array_link (c.rows e))
 
+  -- the rows of an OID that may be there, and of an element and its array
   abbrev pub in_full_if : Option ℕ → List Question
   in_full_if o = map in_full (option_to_list o)
 

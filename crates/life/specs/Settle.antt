@@ -7,6 +7,7 @@ use Rattle.unfolding.specs.Lists.{Mem}
 use Rattle.unfolding.specs.Unfolding.{Tree, node, Trees, none, more}
 use Rattle.life.specs.Rounds.{Descriptors, found}
 
+-- o is described by t, or by what is made of it
 abbrev pub put : Descriptors → ℕ → Tree → Descriptors
 put b o t p = if p == o then Some t else b p
 
@@ -24,6 +25,7 @@ abbrev pub gather : Descriptors → List ℕ → Option Trees
 gather b [] = Some none
 gather b (o ∷ os) = joined (found b o) (gather b os)
 
+-- the descriptor of this shape, if all its links are found
 abbrev pub made_of : Descriptors → ℕ → Shape → Option Tree
 made_of b o s = option_map (node o s.name s.head) (gather b s.links)
 
@@ -31,6 +33,7 @@ made_of b o s = option_map (node o s.name s.head) (gather b s.links)
 abbrev pub made : Catalog → Descriptors → ℕ → Option Tree
 made c b o = option_and_then (made_of b o) (formed c o)
 
+-- one row, one pass over the rows, and so many passes
 abbrev pub settle_one : Catalog → Descriptors → ℕ → Descriptors
 settle_one c b o = elim (is_some (b o)) [ true ↦ b | false ↦ put_if b o (made c b o) ]
 
@@ -50,7 +53,7 @@ settled c b reads = passes c reads (length reads) b
 abbrev pub Still : Catalog → Descriptors → List ℕ → Type 0
 Still c b os = (o : ℕ) → Mem o os → b o ≡ None → made c b o ≡ None
 
--- as many passes as rows leave nothing to settle, and neither does a pass that changes nothing: there a loop may stop
+-- as many passes as rows leave nothing to settle, and once a pass changes nothing no later one does: there a loop may stop
 abbrev pub PassesLaw : Type 0
 PassesLaw =
     (c : Catalog) (b : Descriptors) (reads : List ℕ) →

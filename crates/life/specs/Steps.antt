@@ -32,6 +32,7 @@ pub data Ending : Type 0 where
   accepted : ℕ → ℕ → Ending
   refused : ℕ → ℕ → Bool → ℕ → Ending
 
+-- the rounds told, and whether the step was accepted
 abbrev pub rounds_told : Ending → ℕ
 rounds_told (accepted types columns) = types + columns
 rounds_told (refused number place columns rounds) = rounds
@@ -57,6 +58,7 @@ pub record Event : Type 0 where
   pub call : Call
   pub ending : Ending
 
+-- the requests of a step
 abbrev pub wanted : Event → List ℕ
 wanted e = requests e.before e.call
 

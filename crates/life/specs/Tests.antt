@@ -7,6 +7,7 @@ use Rattle.catalog.specs.Shape.{Name}
 use Rattle.keys.specs.Senses.{Pair, same_pair}
 use Rattle.life.specs.Calls.{Declared, of_oid, of_name, array_of, Field, Call, fill, resolve, bind, describe}
 
+-- this very value
 abbrev pub is_just : {A : Type 0} → (A → A → Bool) → Option A → A → Bool
 is_just same None y = false
 is_just same (Some x) y = same x y
@@ -23,6 +24,7 @@ is_array_of c (of_oid o) e = false
 is_array_of c (of_name m) e = false
 is_array_of c (array_of m) e = is_just nat_eq (c.named m) e
 
+-- the call declares this name, and an array of this element
 abbrev pub declares : Call → Name → Bool
 declares (fill os) n = false
 declares (resolve ds) n = list_any (λ x. is_named x n) ds
@@ -45,6 +47,7 @@ source f = both f.relation f.attribute
 abbrev pub sources : List Field → List Pair
 sources fs = flat_map (λ f. option_to_list (source f)) fs
 
+-- the call may ask for this column
 abbrev pub asks_column : Call → ℕ → ℤ → Bool
 asks_column (fill os) r a = false
 asks_column (resolve ds) r a = false

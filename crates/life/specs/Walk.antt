@@ -7,10 +7,11 @@ use Rattle.unfolding.specs.Unfolding.{built_in}
 use Rattle.life.specs.Lists.{fresh}
 use Rattle.life.specs.Rounds.{Descriptors}
 
--- not to be asked for
+-- known, and so not to be asked for
 abbrev pub answered : Descriptors → ℕ → Bool
 answered b o = built_in o || is_some (b o)
 
+-- the links of a row, where it is there and well-formed, and of the rows of a list
 abbrev pub links_in : Option Shape → List ℕ
 links_in None = []
 links_in (Some s) = s.links
@@ -37,6 +38,7 @@ ask_each oid bad left [] = all_read left
 ask_each oid bad zero (q ∷ qs) = stop 7 (oid q)
 ask_each oid bad (suc left) (q ∷ qs) = elim (bad q) [ true ↦ stop 6 (oid q) | false ↦ ask_each oid bad left qs ]
 
+-- those of the OIDs that stand, each in full
 abbrev pub ask : Catalog → ℕ → List ℕ → Asked
 ask c = ask_each (λ o. o) (malformed c)
 
@@ -46,6 +48,7 @@ pub data Walked : Type 0 where
   -- number, place, rounds opened
   stopped : ℕ → ℕ → ℕ → Walked
 
+-- what follows where all was read
 abbrev pub and_then : Asked → ℕ → (ℕ → Walked) → Walked
 and_then (all_read left) rounds next = next left
 and_then (stop number place) rounds next = stopped number place rounds

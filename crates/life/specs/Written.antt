@@ -17,10 +17,12 @@ pub data WrittenType : Type 0 where
   settled_as : ℕ → Tree → WrittenType
   declared_as : ℕ → WrittenType
 
+-- where a field comes from: no column, one that the book does not hold, or this one of this table
 pub data Origin : Type 0 where
   expression unknown : Origin
   table : Name → Name → Origin
 
+-- what is written of a type and of a column that may be there
 abbrev pub write_type : ℕ → Option Tree → WrittenType
 write_type o None = declared_as o
 write_type o (Some t) = settled_as o t
@@ -37,6 +39,7 @@ origin_at b (Some p) = origin_found (b.columns p.0 p.1)
 abbrev pub origin_of : Book → Field → Origin
 origin_of b f = origin_at b (source f)
 
+-- a field: its index, and what is written of it
 pub record BoundColumn : Type 0 where
   pub ordinal : ℕ
   pub type : WrittenType
