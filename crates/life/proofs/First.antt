@@ -72,7 +72,11 @@ module _ (c : Catalog) (b : Book) (agree : Agrees c b) where
         let x = h.0 in inl (refl, (x.0, x.1, array_stands x.0 o x.2 h.2))
 
     any_first : (list_any (asks_name c b) ds || any_question qs) ≡ true → Anything c b.descriptors rs Others 1
-    any_first t = ⊎_elim (λ y. let x = asked_name.0 y in inl (refl, (x.0, x.1, name_stands x.0 x.2))) (λ y. question_stands qs refl y) (or_cases (list_any (asks_name c b) ds) (any_question qs) t)
+    any_first t =
+        ⊎_elim
+        (λ y. let x = asked_name.0 y in inl (refl, (x.0, x.1, name_stands x.0 x.2)))
+        (question_stands qs refl)
+        (or_cases (list_any (asks_name c b) ds) (any_question qs) t)
 
     no_question : (l : List Question) → any_question l ≡ false → l ≡ []
     no_question [] e = refl

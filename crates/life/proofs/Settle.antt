@@ -1,6 +1,6 @@
 -- The passes settle exactly the OIDs read that have an unfolding. Assumes nothing.
-use Rattle.std.proofs.Common.{◌≡◌, ℕ, zero, suc, ◌+◌, ◌<◌, ◌≤◌, false, cond, ◌⊎◌, List, [], ◌∷◌, length, is_some, nat_eq, Some, None, Option, option_map, option_and_then, bytes_eq, sym, refl, ap, ◌∙◌, subst, inl, inr, ⊎_elim, arith, eq-eqb, eqb-true}
-use Rattle.std.proofs.lemmas.Bool.{cases_Bool}
+use Rattle.std.proofs.Common.{◌≡◌, ℕ, zero, suc, ◌+◌, ◌<◌, ◌≤◌, false, ◌⊎◌, List, [], ◌∷◌, length, is_some, nat_eq, Some, None, Option, option_map, option_and_then, sym, refl, ap, ◌∙◌, subst, inl, inr, ⊎_elim, arith, eq-eqb, eqb-true}
+use Rattle.std.proofs.lemmas.Bool.{cases_Bool, cond-false, cond-true}
 use Rattle.catalog.specs.Catalog.{Catalog}
 use Rattle.catalog.specs.Shape.{Shape, formed}
 use Rattle.unfolding.specs.Lists.{Mem}
@@ -18,9 +18,9 @@ Ext b d = (o : ℕ) (t : Tree) → b o ≡ Some t → d o ≡ Some t
 put_cases : (b : Descriptors) (o : ℕ) (t : Tree) (p : ℕ) → ((p ≡ o) × (put b o t p ≡ Some t)) ⊎ ((p ≡ o → ⊥) × (put b o t p ≡ b p))
 put_cases b o t p =
     ⊎_elim
-    (λ y. inl (eqb-true p o y, ap (λ x. cond x (Some t) (b p)) y))
-    (λ n. inr (λ e. not_both (eq-eqb p o e) n, ap (λ x. cond x (Some t) (b p)) n))
-    (cases_Bool (nat_eq p o))
+    (λ y. inl (sym (eqb-true o p y), cond-true (nat_eq o p) (Some t) (b p) y))
+    (λ n. inr (λ e. not_both (eq-eqb o p (sym e)) n, cond-false (nat_eq o p) (Some t) (b p) n))
+    (cases_Bool (nat_eq o p))
 
 joined_some : (x : Option Tree) (y : Option Trees) (us : Trees) → joined x y ≡ Some us → (t : Tree) × (ts : Trees) × (x ≡ Some t) × (y ≡ Some ts) × (more t ts ≡ us)
 joined_some None y us e = absurd (not_some_none us e refl)
@@ -40,7 +40,7 @@ module _ (c : Catalog) where
       (cases_Bool (built_in o))
 
   gather_right : (b : Descriptors) → Right c b → (os : List ℕ) (ts : Trees) → gather b os ≡ Some ts → UnfoldAll c os ts
-  gather_right b g [] ts e = let bytes_eq : none ≡ ts = cc in subst (UnfoldAll c []) bytes_eq tt
+  gather_right b g [] ts e = let same : none ≡ ts = cc in subst (UnfoldAll c []) same tt
   gather_right b g (o ∷ os) ts e =
       let j = joined_some (found b o) (gather b os) ts e in
       subst (UnfoldAll c (o ∷ os)) j.4 (found_right c b g o j.0 j.2, gather_right b g os j.1 j.3)
@@ -174,8 +174,8 @@ module _ (c : Catalog) where
   pass_still : (os : List ℕ) (b : Descriptors) → Still c b os → pass c b os ≡ b
   pass_still [] b s = refl
   pass_still (o ∷ os) b s =
-      let bytes_eq : settle_one c b o ≡ b = ⊎_elim (λ x. x.0) (λ x. absurd (not_some_none x.0 x.2 (s o (inl refl) x.1))) (one_cases b o) in
-      ap (λ (d : Descriptors). pass c d os) bytes_eq ∙ pass_still os b (λ p m. s p (inr m))
+      let same : settle_one c b o ≡ b = ⊎_elim (λ x. x.0) (λ x. absurd (not_some_none x.0 x.2 (s o (inl refl) x.1))) (one_cases b o) in
+      ap (λ (d : Descriptors). pass c d os) same ∙ pass_still os b (λ p m. s p (inr m))
 
   passes_still : (reads : List ℕ) (n : ℕ) (b : Descriptors) → Still c b reads → passes c reads n b ≡ b
   passes_still reads zero b s = refl
@@ -201,10 +201,10 @@ module _ (c : Catalog) where
 
   -- a pass that changes nothing leaves nothing to settle: where a loop may stop
   unchanged_still : (reads : List ℕ) (b : Descriptors) → pass c b reads ≡ b → Still c b reads
-  unchanged_still reads b bytes_eq o m n =
+  unchanged_still reads b same o m n =
       ⊎_elim
       (λ e. e)
-      (λ x. let h = pass_does reads b o x.0 m x.1 in absurd (not_some_none h.0 (sym (ap (λ (d : Descriptors). d o) bytes_eq) ∙ h.1) n))
+      (λ x. let h = pass_does reads b o x.0 m x.1 in absurd (not_some_none h.0 (sym (ap (λ (d : Descriptors). d o) same) ∙ h.1) n))
       (split_option (made c b o))
 
   -- how many rows are not settled

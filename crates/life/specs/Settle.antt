@@ -1,6 +1,7 @@
 -- Settling the rows read: pass after pass, a row whose links are all settled is settled itself.
 -- Assumes nothing.
-use Rattle.std.specs.Prelude.{◌≡◌, ℕ, zero, suc, true, false, List, [], ◌∷◌, length, is_some, if◌then◌else◌, ◌==◌, Some, None, Option, option_map, option_and_then}
+use Rattle.std.specs.Prelude.{◌≡◌, ℕ, zero, suc, true, false, List, [], ◌∷◌, length, is_some, nat_eq, Some, None, Option, option_map, option_and_then}
+use Rattle.std.specs.Map.{update}
 use Rattle.catalog.specs.Catalog.{Catalog}
 use Rattle.catalog.specs.Shape.{Shape, formed}
 use Rattle.unfolding.specs.Lists.{Mem}
@@ -9,7 +10,7 @@ use Rattle.life.specs.Rounds.{Descriptors, found}
 
 -- o is described by t, or by what is made of it
 abbrev pub put : Descriptors → ℕ → Tree → Descriptors
-put b o t p = if p == o then Some t else b p
+put b o t = update nat_eq b o (Some t)
 
 abbrev pub put_if : Descriptors → ℕ → Option Tree → Descriptors
 put_if b o None = b

@@ -44,6 +44,7 @@ pub record FillExamples : Type 0 where
   pub missing : (filled (broken 64) empty_book (50005 ∷ [])).ending ≡ refused 9 0 false 2
   pub nothing : (filled (broken 64) empty_book (50005 ∷ [])).left.descriptors 50005 ≡ None
   pub alone : (filled (broken 64) empty_book (50006 ∷ [])).ending ≡ accepted 1 0
+  pub asked_again : (filled (broken 64) (filled (broken 64) empty_book (50006 ∷ [])).left (50006 ∷ [])).ending ≡ accepted 1 0
   -- a ring
   pub ring : (filled (broken 64) empty_book (50007 ∷ [])).ending ≡ refused 9 0 false 2
   -- 64 rounds and no more

@@ -25,6 +25,7 @@ returns c = record {
     missing = refl;
     nothing = refl;
     alone = refl;
+    asked_again = refl;
     ring = refl;
     chain_64 = refl;
     chain_65 = refl;
