@@ -18,3 +18,13 @@ pub mod Bind
 pub mod Written
 pub mod Run
 pub mod Reading
+mod Outcomes
+mod Fill
+mod Questions
+mod First
+mod Resolve
+mod Bind
+mod Written
+mod Run
+mod Reading
+pub mod HostCalls

@@ -16,3 +16,4 @@ pub mod Bind
 pub mod Written
 pub mod Run
 pub mod Reading
+pub mod HostCalls

@@ -3,6 +3,7 @@
 
 mod binding;
 mod filling;
+mod host_calls;
 mod keeping;
 mod performing;
 mod resolving;
