@@ -267,7 +267,7 @@ early_law host call number place = (
         (inr (h.0, none_place one_too_many OneTooMany many 0 es h.1, none_place without_slot WithoutSlot short 0 es h.2, (place_at (ill_named host) (Misnamed host) ill es place).1 h.3))
 
 -- the number is 1, 2 or 3
-early_number : (host : List ℕ) (call : HostCall) (r : ℕ × ℕ) → early_refusal host call ≡ Some r → (r.0 ≡ 1) ⊎ ((r.0 ≡ 2) ⊎ (r.0 ≡ 3))
+pub early_number : (host : List ℕ) (call : HostCall) (r : ℕ × ℕ) → early_refusal host call ≡ Some r → (r.0 ≡ 1) ⊎ ((r.0 ≡ 2) ⊎ (r.0 ≡ 3))
 early_number host call r e = ⊎_elim (λ h. inl h.0) (⊎_elim (λ h. inr (inl h.0)) (λ h. inr (inr h.0))) ((early_law host call r.0 r.1).0 e)
 
 pub asked_law : AskedLaw

@@ -28,3 +28,4 @@ mod Written
 mod Run
 mod Reading
 pub mod HostCalls
+pub mod Told

@@ -17,3 +17,4 @@ pub mod Written
 pub mod Run
 pub mod Reading
 pub mod HostCalls
+pub mod Told

@@ -9,3 +9,4 @@ mod performing;
 mod resolving;
 mod rounds;
 mod steps;
+mod telling;
