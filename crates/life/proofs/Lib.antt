@@ -29,3 +29,4 @@ mod Run
 mod Reading
 pub mod HostCalls
 pub mod Told
+pub mod Ordinal

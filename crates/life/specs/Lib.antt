@@ -18,3 +18,4 @@ pub mod Run
 pub mod Reading
 pub mod HostCalls
 pub mod Told
+pub mod Ordinal

@@ -5,6 +5,7 @@ mod binding;
 mod filling;
 mod host_calls;
 mod keeping;
+mod ordinals;
 mod performing;
 mod resolving;
 mod rounds;
