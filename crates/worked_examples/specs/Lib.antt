@@ -2,3 +2,4 @@ pub mod BuiltIn
 pub mod Cards
 pub mod Steps
 pub mod Lives
+pub mod Hollow

@@ -2,6 +2,7 @@
 #![tactic(auto)]
 
 ghost use Rattle.worked_examples.specs.BuiltIn.{BuiltInExamples};
+ghost use Rattle.worked_examples.specs.Hollow.{HollowLaw};
 ghost use Rattle.worked_examples.specs.Lives.{LifeExamples};
 ghost use Rattle.worked_examples.specs.Steps.{BindExamples, FillExamples, ResolveExamples};
 
@@ -11,4 +12,10 @@ pub fn examples_hold()
     ensures resolve { ResolveExamples }
     ensures bind { BindExamples }
     ensures life { LifeExamples }
+{}
+
+// Hollow bodies do not satisfy what is said: one that keeps nothing, answers nothing or the same for all, that stops a round short,
+// makes up its count, pays for no round, or always refuses.
+pub fn hollow_bodies_fail()
+    ensures { HollowLaw }
 {}
