@@ -18,15 +18,6 @@ pub mod Bind
 pub mod Written
 pub mod Run
 pub mod Reading
-mod Outcomes
-mod Fill
-mod Questions
-mod First
-mod Resolve
-mod Bind
-mod Written
-mod Run
-mod Reading
 pub mod HostCalls
 pub mod Told
 pub mod Ordinal

@@ -2,7 +2,7 @@
 -- Assumes nothing.
 use Rattle.std.proofs.Common.{◌≡◌, ℕ, zero, suc, ◌≤◌, false, ◌⊎◌, List, [], ◌∷◌, Some, None, codes, sym, refl, ap, ◌∙◌, subst, inl, inr, ⊎_elim, arith}
 use Rattle.std.proofs.lemmas.Option.{none-some, same_Some}
-use Rattle.catalog.specs.Shape.{Shape, domain, enumeration, formed, shape}
+use Rattle.catalog.specs.Shape.{Name, Shape, domain, enumeration, formed, shape}
 use Rattle.life.specs.HostCalls.{host_fill, RefusedEarly}
 use Rattle.life.specs.Life.{Lawful}
 use Rattle.life.specs.Outcomes.{Unresolved, RefusedAtFirst}
@@ -10,7 +10,7 @@ use Rattle.life.specs.Rounds.{Layer, Stands}
 use Rattle.life.specs.Steps.{Book, empty_book, accepted, refused, Step}
 use Rattle.type_info.specs.Table.{types, entries}
 use Rattle.unfolding.specs.Lists.{Mem}
-use Rattle.unfolding.specs.Unfolding.{Tree, built, node, Link, Unfolds, itself}
+use Rattle.unfolding.specs.Unfolding.{Tree, built, node, none, Link, Unfolds, itself}
 use Rattle.worked_examples.specs.Cards.{prices}
 use Rattle.worked_examples.specs.Hollow.{fill_of, free_fill, HollowLaw}
 use Rattle.worked_examples.specs.Steps.{hue}
@@ -68,6 +68,11 @@ answers_nothing : Lawful (fill_of 50004 (accepted 1 0) ∷ []) (prices 63) empty
 unfolding types entries
 answers_nothing l = let x = (l.answers 50004).1 (inr (inl (refl, (50004, inl refl, itself refl), (hue, hue_unfolds)))) in none-some x.0 x.1
 
+nameless : (b : Book) → ((n : Name) → b.names n ≡ None) → Step (fill_of 50004 (accepted 1 0)) empty_book b → ⊥
+nameless b lacks s =
+    let known : b.descriptors 50004 ≡ Some hue = (s.descriptors refl 50004 hue).1 (inr ((1, hue_stands), hue_unfolds)) in
+    none-some 50004 (sym (lacks (codes "hue")) ∙ (s.names refl (codes "hue") 50004).1 (inr (inl (enumeration (codes "red" ∷ []), none, known))))
+
 one_for_all : (t : Tree) (b : Book) → ((o : ℕ) → b.descriptors o ≡ Some t) → Step (fill_of 50004 (accepted 1 0)) empty_book b → ⊥
 one_for_all t b all s = absurd (omega (arith, its_own t 50004 1 (unfolds 50004) (unfolds 1)))
   where
@@ -102,6 +107,7 @@ pub hollow_law : HollowLaw
 hollow_law = record {
   keeps_nothing = keeps_nothing;
   answers_nothing = answers_nothing;
+  nameless = nameless;
   one_for_all = one_for_all;
   stops_short = stops_short;
   made_up = made_up;

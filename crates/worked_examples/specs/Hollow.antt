@@ -1,6 +1,7 @@
 -- Hollow bodies: what does nothing, or says what is not so, is refuted by what is said of a step, a refusal or a life.
 -- Assumes nothing.
-use Rattle.std.specs.Prelude.{◌≡◌, ℕ, false, List, [], ◌∷◌, Some}
+use Rattle.std.specs.Prelude.{◌≡◌, ℕ, false, List, [], ◌∷◌, Some, None}
+use Rattle.catalog.specs.Shape.{Name}
 use Rattle.life.specs.Calls.{fill}
 use Rattle.life.specs.HostCalls.{host_fill, RefusedEarly}
 use Rattle.life.specs.Keep.{call_event}
@@ -24,6 +25,8 @@ pub record HollowLaw : Type 0 where
   pub keeps_nothing : Step (fill_of 50004 (accepted 1 0)) empty_book empty_book → ⊥
   -- nor one that answers nothing
   pub answers_nothing : Lawful (fill_of 50004 (accepted 1 0) ∷ []) (prices 63) empty_book → ⊥
+  -- nor one that holds no name
+  pub nameless : (b : Book) → ((n : Name) → b.names n ≡ None) → Step (fill_of 50004 (accepted 1 0)) empty_book b → ⊥
   -- one descriptor for all
   pub one_for_all : (t : Tree) (b : Book) → ((o : ℕ) → b.descriptors o ≡ Some t) → Step (fill_of 50004 (accepted 1 0)) empty_book b → ⊥
   -- round 1 is read, and a second stands

@@ -6,6 +6,7 @@ use Rattle.catalog.specs.Shape.{domain, enumeration, composite}
 use Rattle.unfolding.specs.Unfolding.{Tree, built, node, none, more}
 use Rattle.life.specs.Calls.{Declared, of_oid, of_name, array_of, Field, Binding, fill}
 use Rattle.life.specs.Steps.{Book, empty_book, accepted, refused}
+use Rattle.life.specs.Keep.{call_event}
 use Rattle.life.specs.Outcomes.{Outcome}
 use Rattle.life.specs.Fill.{quiet_outcome}
 use Rattle.life.specs.Resolve.{resolve_outcome, resolve_writes}
@@ -37,16 +38,22 @@ pub record FillExamples : Type 0 where
   pub two : two_rounds.ending ≡ accepted 2 0
   pub price : two_rounds.left.descriptors 50001 ≡ Some (node 50001 (codes "price") domain (more edge none))
   pub crop : two_rounds.left.descriptors 50002 ≡ Some (node 50002 (codes "crop") (composite (codes "left" ∷ codes "right" ∷ [])) (more edge (more hue none)))
+  pub edge_known : two_rounds.left.descriptors 50003 ≡ Some edge
+  pub hue_known : two_rounds.left.descriptors 50004 ≡ Some hue
   pub no_more : (filled (prices 64) two_rounds.left (50004 ∷ 50003 ∷ 50002 ∷ 50001 ∷ [])).ending ≡ accepted 0 0
-  -- the same at allowance 1
+  -- the same at allowance 1: the book is empty, and nothing is left of the allowance
   pub poor : filled (prices 1) empty_book (50001 ∷ 50002 ∷ []) ≡ record { ending = refused 5 2 false 1; left = empty_book }
+  pub poor_spent : (call_event (prices 1) (fill (50001 ∷ 50002 ∷ [])) (refused 5 2 false 1)).after.allowance ≡ 0
   -- a missing row
   pub missing : (filled (broken 64) empty_book (50005 ∷ [])).ending ≡ refused 9 0 false 2
   pub nothing : (filled (broken 64) empty_book (50005 ∷ [])).left.descriptors 50005 ≡ None
   pub alone : (filled (broken 64) empty_book (50006 ∷ [])).ending ≡ accepted 1 0
-  pub asked_again : (filled (broken 64) (filled (broken 64) empty_book (50006 ∷ [])).left (50006 ∷ [])).ending ≡ accepted 1 0
+  pub alone_unknown : (filled (broken 64) empty_book (50006 ∷ [])).left.descriptors 50006 ≡ None
+  pub alone_again : (filled (broken 64) (filled (broken 64) empty_book (50006 ∷ [])).left (50006 ∷ [])).ending ≡ accepted 1 0
   -- a ring
   pub ring : (filled (broken 64) empty_book (50007 ∷ [])).ending ≡ refused 9 0 false 2
+  pub ring_from_egg : (filled (broken 64) empty_book (50008 ∷ [])).ending ≡ refused 9 0 false 2
+  pub ring_unknown : (filled (broken 64) empty_book (50007 ∷ [])).left.descriptors 50007 ≡ None
   -- 64 rounds and no more
   pub chain_64 : (filled (chain 64) empty_book (60001 ∷ [])).ending ≡ accepted 64 0
   pub chain_65 : filled (chain 65) empty_book (60001 ∷ []) ≡ record { ending = refused 4 65 false 64; left = empty_book }
