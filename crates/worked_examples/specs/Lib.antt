@@ -3,3 +3,4 @@ pub mod Cards
 pub mod Steps
 pub mod Lives
 pub mod Hollow
+pub mod HostCalls

@@ -3,6 +3,7 @@
 
 ghost use Rattle.worked_examples.specs.BuiltIn.{BuiltInExamples};
 ghost use Rattle.worked_examples.specs.Hollow.{HollowLaw};
+ghost use Rattle.worked_examples.specs.HostCalls.{EarlyExamples, OrdinalExamples};
 ghost use Rattle.worked_examples.specs.Lives.{LifeExamples};
 ghost use Rattle.worked_examples.specs.Steps.{BindExamples, FillExamples, ResolveExamples};
 
@@ -12,6 +13,8 @@ pub fn examples_hold()
     ensures resolve { ResolveExamples }
     ensures bind { BindExamples }
     ensures life { LifeExamples }
+    ensures early { EarlyExamples }
+    ensures ordinal { OrdinalExamples }
 {}
 
 // Hollow bodies do not satisfy what is said: one that keeps nothing, answers nothing or the same for all, that stops a round short,

@@ -63,4 +63,31 @@ returns c = record {
     quiet = refl;
   };
   life = record { laws = one_laws; first_ends = refl; second_ends = refl; life = one_life; knows = refl };
+  early = record {
+    most = refl;
+    too_many = refl;
+    too_many_fields = refl;
+    apart = refl;
+    no_slot = refl;
+    no_column_slot = refl;
+    nameless = refl;
+    longest = refl;
+    too_long = refl;
+    too_long_element = refl;
+    too_long_field = refl;
+    at_end = refl;
+    past_end = refl;
+    one_first = refl;
+    two_first = refl;
+    told = refl;
+    follows = refl;
+  };
+  ordinal = record {
+    w = refl;
+    h = refl;
+    wh = refl;
+    empty = refl;
+    outside = refl;
+    outside_too = refl;
+  };
 }
