@@ -1,19 +1,19 @@
 -- Refusals before any round are what the entries of a call say, and an asked call is performed or turned away.
 -- Assumes nothing.
-use Rattle.std.proofs.Common.{◌≡◌, ℕ, zero, suc, ◌+◌, ◌<◌, ◌≤◌, Bool, true, false, not, ◌&&◌, ◌⊎◌, ◌↔◌, List, [], ◌∷◌, ◌++◌, length, if◌then◌else◌, Some, None, Decides, Option, nat_lt, nat_le, sym, refl, ap, ◌∙◌, subst, inl, inr, ⊎_elim, arith}
+use Rattle.std.proofs.Common.{◌≡◌, ℕ, zero, suc, ◌+◌, ◌<◌, ◌≤◌, Bool, true, false, ◌&&◌, ◌⊎◌, ◌↔◌, List, [], ◌∷◌, ◌++◌, length, if◌then◌else◌, Some, None, Decides, Option, nat_lt, nat_le, sym, refl, ap, ◌∙◌, subst, inl, inr, ⊎_elim, arith}
 use Rattle.std.proofs.lemmas.Bool.{cases_Bool, leb-true, le-leb}
 use Rattle.std.proofs.lemmas.Bool.Decides.{Decides-and, Decides-ltb, Decides-not}
 use Rattle.std.specs.Option.{option_or}
-use Rattle.catalog.specs.Catalog.{Catalog, Each, Laws}
+use Rattle.catalog.specs.Catalog.{Catalog, Laws}
 use Rattle.keys.specs.Spans.{span_end}
-use Rattle.life.specs.Calls.{Call}
 use Rattle.life.specs.Keep.{call_event}
 use Rattle.life.specs.Lists.{first_place, FirstAt}
 use Rattle.life.specs.Outcomes.{Outcome}
-use Rattle.life.specs.Run.{perform, Done}
-use Rattle.life.specs.Steps.{Book}
-use Rattle.life.specs.HostCalls.{HostName, HostCall, host_fill, host_resolve, host_bind, host_describe, meant, type_name, field_name, inside, misnamed, first_behind, first_misnamed, numbered, early_refusal, unless_early, Entry, entries_from, entries, OneTooMany, WithoutSlot, WellNamed, Misnamed, NoneOf, RefusedEarly, EarlyLaw, AskedLaw}
-use Rattle.life.proofs.Lists.{not_both, not_some_none, same_some, split_option, chosen_true, chosen_false, same_truth, Agree, place_yes, place_no, place_first}
+use Rattle.life.specs.Run.{perform, Done, Performed}
+use Rattle.life.specs.Steps.{Book, Event}
+use Rattle.life.specs.HostCalls.{HostName, HostCall, host_fill, host_resolve, host_bind, host_describe, meant, type_name, field_name, inside, misnamed, first_behind, first_misnamed, numbered, early_refusal, unless_early, asked_outcome, Entry, entries_from, entries, OneTooMany, WithoutSlot, WellNamed, Misnamed, NoneOf, RefusedEarly, EarlyLaw, AskedLife, AskedLaw, AskedLifeLaw}
+use Rattle.life.proofs.Lists.{not_both, not_some_none, same_some, split_option, chosen_true, chosen_false, same_truth, place_yes, place_no, place_first}
+use Rattle.life.proofs.Run.{run_law}
 
 le_tells : (a b : ℕ) → Decides (nat_le a b) (a ≤ b)
 le_tells a b = (leb-true a b, le-leb a b)
@@ -270,8 +270,10 @@ early_law host call number place = (
 pub early_number : (host : List ℕ) (call : HostCall) (r : ℕ × ℕ) → early_refusal host call ≡ Some r → (r.0 ≡ 1) ⊎ ((r.0 ≡ 2) ⊎ (r.0 ≡ 3))
 early_number host call r e = ⊎_elim (λ h. inl h.0) (⊎_elim (λ h. inr (inl h.0)) (λ h. inr (inr h.0))) ((early_law host call r.0 r.1).0 e)
 
-pub asked_law : AskedLaw
-asked_law full full_columns host c b call laws = ⊎_elim performed away (split_option (early_refusal host call))
+-- on a catalog that keeps its laws
+outcome_done : (full full_columns : Book → Option ℕ) (host : List ℕ) (c : Catalog) (b : Book) (call : HostCall) → Laws c →
+    let o : Outcome = asked_outcome full full_columns host c b call in Done full full_columns (call_event c (meant host call) o.ending) b o.left
+outcome_done full full_columns host c b call laws = ⊎_elim performed away (split_option (early_refusal host call))
   where
     done : Option (ℕ × ℕ) → Outcome
     done r = unless_early b (perform full full_columns c b (meant host call)) r
@@ -286,3 +288,20 @@ asked_law full full_columns host c b call laws = ⊎_elim performed away (split_
     away z =
         subst (λ r. Step (done r)) (sym z.1)
         (record { laws = laws; after = refl; what = inr ((early_number host call z.0 z.1, refl, refl), refl) })
+
+pub asked_law : AskedLaw
+asked_law full full_columns host call e b b' a =
+    subst (λ (v : Event). Done full full_columns v b b') (sym a.event)
+    (subst (λ (v : Book). Done full full_columns (call_event e.before (meant host call) (asked_outcome full full_columns host e.before b call).ending) b v) (sym a.left)
+    (outcome_done full full_columns host e.before b call a.laws))
+
+performed_so : (full full_columns : Book → Option ℕ) (h : List Event) (c : Catalog) (b : Book) → AskedLife full full_columns h c b → Performed full full_columns h c b
+performed_so full full_columns [] c b l = l
+performed_so full full_columns (e ∷ h) c b l =
+    (l.0, performed_so full full_columns h e.before l.0 l.3, asked_law full full_columns l.1 l.2 e l.0 b l.4, l.5)
+
+pub asked_life_law : AskedLifeLaw
+asked_life_law full full_columns h c b l =
+    let p = performed_so full full_columns h c b l in
+    let r = run_law full full_columns h c b p in
+    (r.0, (p, r.1))

@@ -1,6 +1,6 @@
 -- Ordinal answers the last field of a name.
 -- Assumes nothing.
-use Rattle.std.proofs.Common.{◌≡◌, ℕ, zero, suc, ◌+◌, Bool, true, false, ◌&&◌, ◌⊎◌, ◌↔◌, List, [], ◌∷◌, ◌++◌, length, Some, None, Decides, Option, bytes_eq, sym, refl, ap, ◌∙◌, subst, inl, inr, ⊎_elim, arith}
+use Rattle.std.proofs.Common.{◌≡◌, ℕ, suc, ◌+◌, Bool, true, false, List, [], ◌∷◌, ◌++◌, length, Some, None, Decides, Option, sym, refl, ap, ◌∙◌, ⊎_elim, arith}
 use Rattle.std.proofs.lemmas.Bool.{cases_Bool, leb-true, le-leb}
 use Rattle.std.proofs.lemmas.Bool.Decides.{Decides-and}
 use Rattle.std.proofs.lemmas.Slice.Eq.{bytes_eq-Decides}
@@ -10,7 +10,7 @@ use Rattle.catalog.specs.Catalog.{Each}
 use Rattle.keys.specs.declared.span.Span.{Span}
 use Rattle.keys.specs.Spans.{span_bytes, span_end}
 use Rattle.life.specs.HostCalls.{inside}
-use Rattle.life.specs.Ordinal.{last_place, same_name, Inside, SameName, LastAt, OrdinalLaw}
+use Rattle.life.specs.Ordinal.{last_place, same_name, Inside, SameName, OrdinalLaw}
 use Rattle.life.proofs.Lists.{not_both, not_some_none, same_some, split_option}
 
 module _ {A : Type 0} (test : A → Bool) (P : A → Type 0) (tells : (x : A) → Decides (test x) (P x)) where

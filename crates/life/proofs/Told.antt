@@ -1,6 +1,6 @@
 -- Every refusal of a call is one of the table: its number, its place, its rounds and its layer.
 -- Assumes nothing.
-use Rattle.std.proofs.Common.{◌≡◌, ℕ, zero, suc, ◌+◌, ◌-◌, ◌≤◌, Bool, true, false, ◌||◌, ◌⊎◌, List, [], ◌∷◌, ◌++◌, map, Some, None, Option, sym, refl, ap, ◌∙◌, subst, inl, inr, ⊎_elim, arith}
+use Rattle.std.proofs.Common.{◌≡◌, ℕ, zero, suc, ◌+◌, ◌-◌, ◌≤◌, Bool, true, false, ◌||◌, ◌⊎◌, List, [], ◌∷◌, ◌++◌, map, Some, None, Option, sym, refl, ap, subst, inl, inr, ⊎_elim, arith}
 use Rattle.std.proofs.lemmas.Bool.{cases_Bool}
 use Rattle.std.specs.List.{list_any}
 use Rattle.catalog.specs.Catalog.{Catalog}
@@ -8,14 +8,13 @@ use Rattle.catalog.specs.declared.faults.Layer.{Layer}
 use Rattle.catalog.specs.declared.faults.Layer.TheVariants as layer
 use Rattle.catalog.specs.declared.faults.Told.{Told}
 use Rattle.keys.specs.Senses.{Pair}
-use Rattle.life.specs.Bind.{column_questions, types_book, columns_book, column_round, types_settled, bind_settled, bind_outcome}
-use Rattle.life.specs.Calls.{Declared, Binding, Call, fill, resolve, bind, describe, requests}
+use Rattle.life.specs.Bind.{column_questions, types_book, columns_book, column_round, types_settled}
+use Rattle.life.specs.Calls.{Declared, Binding, fill, resolve, bind, requests}
 use Rattle.life.specs.Fill.{closing}
 use Rattle.life.specs.HostCalls.{ResolveAsked, BindAsked, HostCall, host_fill, host_resolve, host_bind, host_describe, meant, meant_type, meant_field, numbered, early_refusal, unless_early, first_behind, asked_outcome}
-use Rattle.life.specs.Keep.{kept}
 use Rattle.life.specs.Lists.{fresh, first_place}
 use Rattle.life.specs.Outcomes.{Outcome, refusal, fitted, if_fits, concluded, unresolved}
-use Rattle.life.specs.Resolve.{offends, lacks, closing_resolve, resolve_left, resolve_settled}
+use Rattle.life.specs.Resolve.{offends, lacks, closing_resolve}
 use Rattle.life.specs.RoundOne.{Question, asked_oid, asked_in_full, refusable, any_question, asks_name, round_one, first_opened, resolve_walk}
 use Rattle.life.specs.Run.{perform}
 use Rattle.life.specs.Settle.{settled}

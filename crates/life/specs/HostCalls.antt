@@ -1,16 +1,17 @@
 -- A call as a host makes it: refusals 1 to 3, before any round, and the call that is meant where nothing is refused.
 -- Assumes nothing.
-use Rattle.std.specs.Prelude.{◌≡◌, ℕ, zero, suc, ◌+◌, ◌≤◌, Bool, true, false, not, ◌&&◌, ◌⊎◌, ◌↔◌, List, [], ◌∷◌, ◌++◌, map, length, ℤ, if◌then◌else◌, Some, None, Option, option_map, nat_lt, nat_le}
+use Rattle.std.specs.Prelude.{◌≡◌, ℕ, suc, ◌+◌, ◌≤◌, Bool, false, not, ◌&&◌, ◌⊎◌, ◌↔◌, List, [], ◌∷◌, ◌++◌, map, length, ℤ, if◌then◌else◌, Some, None, Option, option_map, nat_lt, nat_le}
 use Rattle.std.specs.Option.{option_or}
-use Rattle.catalog.specs.Catalog.{Catalog, Each, Laws}
+use Rattle.catalog.specs.Catalog.{Catalog, Each, Laws, Grows}
 use Rattle.keys.specs.declared.span.Span.{Span}
 use Rattle.keys.specs.Spans.{span_bytes, span_end}
 use Rattle.life.specs.Calls.{Declared, of_oid, of_name, array_of, Field, Call, fill, resolve, bind, describe}
 use Rattle.life.specs.Keep.{call_event}
+use Rattle.life.specs.Life.{Lawful}
 use Rattle.life.specs.Lists.{first_place, FirstAt}
 use Rattle.life.specs.Outcomes.{Outcome, refusal}
-use Rattle.life.specs.Run.{perform, Done}
-use Rattle.life.specs.Steps.{Book}
+use Rattle.life.specs.Run.{perform, Done, Performed, CountedRun}
+use Rattle.life.specs.Steps.{Book, empty_book, Event}
 
 -- an entry of Resolve, over the host's text
 pub data HostType : Type 0 where
@@ -169,9 +170,27 @@ RefusedEarly host call number place =
 abbrev pub EarlyLaw : Type 0
 EarlyLaw = (host : List ℕ) (call : HostCall) (number place : ℕ) → (early_refusal host call ≡ Some (number, place)) ↔ RefusedEarly host call number place
 
+module _ (full full_columns : Book → Option ℕ) where
+  -- the event is this call, asked with this text and met by b, which it left as b'
+  pub record AsAsked (host : List ℕ) (call : HostCall) (e : Event) (b b' : Book) : Type 0 where
+    pub laws : Laws e.before
+    pub event : e ≡ call_event e.before (meant host call) (asked_outcome full full_columns host e.before b call).ending
+    pub left : b' ≡ (asked_outcome full full_columns host e.before b call).left
+
+  -- b is the book that the calls which hosts asked, the last one first, left of the empty book, and c the catalog as it now stands
+  abbrev pub AskedLife : List Event → Catalog → Book → Type 0
+  AskedLife [] c b = b ≡ empty_book
+  AskedLife (e ∷ h) c b =
+      (b₀ : Book) × (host : List ℕ) × (call : HostCall) × AskedLife h e.before b₀ × AsAsked host call e b₀ b × Grows e.after c
+
 -- whatever a host asks, what it does is a call performed, or one turned away before any round
 abbrev pub AskedLaw : Type 0
 AskedLaw =
-    (full full_columns : Book → Option ℕ) (host : List ℕ) (c : Catalog) (b : Book) (call : HostCall) → Laws c →
-    let o : Outcome = asked_outcome full full_columns host c b call in
-    Done full full_columns (call_event c (meant host call) o.ending) b o.left
+    (full full_columns : Book → Option ℕ) (host : List ℕ) (call : HostCall) (e : Event) (b b' : Book) →
+    AsAsked full full_columns host call e b b' → Done full full_columns e b b'
+
+-- so all that is said of a book's life and its counts holds of any calls that hosts ask
+abbrev pub AskedLifeLaw : Type 0
+AskedLifeLaw =
+    (full full_columns : Book → Option ℕ) (h : List Event) (c : Catalog) (b : Book) → AskedLife full full_columns h c b →
+    Lawful h c b × ((p : Performed full full_columns h c b) × CountedRun full full_columns h c b p)

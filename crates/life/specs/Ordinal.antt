@@ -1,11 +1,11 @@
 -- What Ordinal answers of a bound statement.
 -- Assumes nothing.
-use Rattle.std.specs.Prelude.{◌≡◌, ℕ, zero, suc, ◌+◌, ◌≤◌, Bool, true, false, ◌&&◌, ◌↔◌, List, [], ◌∷◌, ◌++◌, map, length, Some, None, Option, bytes_eq}
+use Rattle.std.specs.Prelude.{◌≡◌, ℕ, suc, ◌+◌, ◌≤◌, Bool, ◌&&◌, ◌↔◌, List, [], ◌∷◌, ◌++◌, map, length, Some, None, Option, bytes_eq}
 use Rattle.std.specs.Bool.{then_some}
 use Rattle.std.specs.Option.{option_or}
 use Rattle.catalog.specs.Catalog.{Each}
 use Rattle.keys.specs.declared.span.Span.{Span}
-use Rattle.keys.specs.Spans.{span_bytes, span_end}
+use Rattle.keys.specs.Spans.{span_bytes}
 use Rattle.life.specs.HostCalls.{HostField, inside}
 
 -- the place, counted from i, of the last element that passes the test

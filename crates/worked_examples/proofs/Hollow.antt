@@ -1,6 +1,6 @@
 -- No hollow body is what is said.
 -- Assumes nothing.
-use Rattle.std.proofs.Common.{◌≡◌, ℕ, zero, suc, ◌≤◌, false, ◌⊎◌, List, [], ◌∷◌, Some, None, codes, sym, refl, ap, ◌∙◌, subst, inl, inr, ⊎_elim, arith}
+use Rattle.std.proofs.Common.{◌≡◌, ℕ, zero, suc, ◌≤◌, false, List, [], ◌∷◌, Some, None, codes, sym, refl, ◌∙◌, subst, inl, inr, ⊎_elim, arith}
 use Rattle.std.proofs.lemmas.Option.{none-some, same_Some}
 use Rattle.catalog.specs.Shape.{Name, Shape, domain, enumeration, formed, shape}
 use Rattle.life.specs.HostCalls.{host_fill, RefusedEarly}

@@ -1,9 +1,9 @@
 -- Worked examples of what a host asks: refusals before any round, what is told of them, and ordinals.
 -- Assumes nothing.
-use Rattle.std.specs.Prelude.{◌≡◌, ℕ, true, List, [], ◌∷◌, pos, Some, None, codes, replicate}
+use Rattle.std.specs.Prelude.{◌≡◌, ℕ, true, List, [], ◌∷◌, Some, None, codes, replicate}
 use Rattle.catalog.specs.declared.faults.Layer.TheVariants as layer
 use Rattle.keys.specs.declared.span.Span.{Span}
-use Rattle.life.specs.HostCalls.{HostType, host_oid, host_name, host_array, HostField, BindAsked, HostCall, host_fill, host_resolve, host_bind, early_refusal, asked_outcome}
+use Rattle.life.specs.HostCalls.{HostType, host_oid, host_name, host_array, HostField, HostCall, host_fill, host_resolve, host_bind, early_refusal, asked_outcome}
 use Rattle.life.specs.Ordinal.{ordinal_among}
 use Rattle.life.specs.Steps.{empty_book, accepted}
 use Rattle.life.specs.Told.{told_of}
