@@ -6,6 +6,7 @@ use Rattle.std.proofs.lemmas.Option.{cond_some, none-some}
 use Rattle.std.proofs.lemmas.Slice.Eq.{bytes_eq-Decides}
 use Rattle.std.specs.Str.{bytes_eq}
 use Rattle.catalog.specs.Catalog.{CatalogRow, Catalog, RowFits, Laws, Sized, spent}
+use Rattle.life.specs.HostCalls.{AskedLife}
 use Rattle.life.specs.Keep.{call_event}
 use Rattle.life.specs.Run.{Performed}
 use Rattle.life.specs.Steps.{Book, empty_book, refused, Event}
@@ -13,7 +14,7 @@ use Rattle.life.specs.Calls.{Call, fill}
 use Rattle.life.proofs.Keep.{grows_self}
 use Rattle.worked_examples.specs.Cards.{enum_of}
 use Rattle.worked_examples.specs.Steps.{room}
-use Rattle.worked_examples.specs.Lives.{one, first_call, second_call, left_by, event, after, poorer, first_book, as_poor, second_book, too_long, history}
+use Rattle.worked_examples.specs.Lives.{one, first_call, second_call, left_by, event, after, poorer, first_book, as_poor, second_book, too_long, history, asked_first, asked_second, first_event, second_event}
 
 abbrev edge_row : CatalogRow
 edge_row = enum_of (codes "edge") (codes "near" ∷ codes "far" ∷ [])
@@ -71,3 +72,14 @@ one_life =
     turned_away (event poorer first_book second_call ∷ event one empty_book first_call ∷ []) as_poor second_book
     (spent_laws poorer _ (spent_laws one _ one_laws))
     (goes_on (event one empty_book first_call ∷ []) poorer first_book second_call (spent_laws one _ one_laws) (goes_on [] one empty_book first_call one_laws refl))
+
+-- the same life, as hosts ask it
+pub asked_life : AskedLife room room (second_event ∷ first_event ∷ []) second_event.after first_book
+asked_life = (
+  first_book,
+  [],
+  asked_second,
+  (empty_book, codes "edge", asked_first, refl, record { laws = one_laws; event = refl; left = refl }, grows_self poorer),
+  record { laws = spent_laws one _ one_laws; event = refl; left = refl },
+  grows_self second_event.after,
+)

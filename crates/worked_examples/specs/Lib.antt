@@ -1,6 +1,6 @@
 pub mod BuiltIn
 pub mod Cards
 pub mod Steps
+pub mod HostCalls
 pub mod Lives
 pub mod Hollow
-pub mod HostCalls

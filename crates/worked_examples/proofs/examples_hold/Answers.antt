@@ -1,7 +1,7 @@
 use Rattle.std.proofs.Common.{refl}
 use Rattle.type_info.specs.Table.{types, entries}
 use Rattle.catalog.specs.Shape.{formed, shape}
-use Rattle.worked_examples.proofs.Lives.{one_laws, one_life}
+use Rattle.worked_examples.proofs.Lives.{one_laws, one_life, asked_life}
 use Rattle.worked_examples.proofs.examples_hold.Goals as goal
 
 pub returns : goal.returns
@@ -62,7 +62,16 @@ returns c = record {
     without = refl;
     quiet = refl;
   };
-  life = record { laws = one_laws; first_ends = refl; second_ends = refl; life = one_life; knows = refl };
+  life = record {
+    laws = one_laws;
+    first_ends = refl;
+    second_ends = refl;
+    life = one_life;
+    knows = refl;
+    as_meant = refl;
+    asked_ends = refl;
+    asked_life = asked_life;
+  };
   early = record {
     most = refl;
     too_many = refl;
