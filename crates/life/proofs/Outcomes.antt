@@ -1,16 +1,16 @@
 -- What computed calls share: refusals that keep nothing are steps, and refusals 9 and 10 have the first place.
 -- Assumes nothing.
-use Rattle.std.proofs.Common.{◌≡◌, ℕ, ◌≤◌, Bool, true, false, not, ◌&&◌, ◌⊎◌, ◌↔◌, List, is_some, Some, None, Option, refl, ap, ◌∙◌, subst, inl, inr, ⊎_elim}
+use Rattle.std.proofs.Common.{◌≡◌, ℕ, ◌≤◌, Bool, true, false, not, ◌&&◌, ◌⊎◌, ◌↔◌, List, is_some, Some, None, Option, refl, ap, ◌∙◌, subst, inl, inr, ⊎_elim, arith}
 use Rattle.std.proofs.lemmas.Bool.{and_parts, not-true}
 use Rattle.catalog.specs.Catalog.{Catalog, Laws}
 use Rattle.unfolding.specs.Lists.{Mem}
 use Rattle.life.specs.Calls.{Call}
 use Rattle.life.specs.Keep.{call_event}
 use Rattle.life.specs.Lists.{first_place}
-use Rattle.life.specs.Outcomes.{Outcome, refusal, if_fits, unresolved, Unresolved, Fits, RefusedAtFirst}
+use Rattle.life.specs.Outcomes.{Outcome, refusal, if_fits, closing, unresolved, Unresolved, Fits, RefusedAtFirst}
 use Rattle.life.specs.Rounds.{Descriptors, found, StandsOnce, LastRound}
 use Rattle.life.specs.Settle.{settled}
-use Rattle.life.specs.Steps.{Book, Ending, refused, keeps_finds, Step}
+use Rattle.life.specs.Steps.{Book, Ending, refused, rounds_told, accepts, keeps_finds, TellsTypeRounds, Step}
 use Rattle.life.specs.Stops.{Offence}
 use Rattle.life.proofs.Keep.{request_found, leaving_step}
 use Rattle.life.proofs.Life.{Sound}
@@ -55,6 +55,42 @@ fits_so o fine f b n e fits = e ∙ so f (subst (λ (x : Outcome). Fits x.ending
     so : (f : Option ℕ) → Fits (if_fits f fine b n).ending n → if_fits f fine b n ≡ fine
     so None x = refl
     so (Some t) x = absurd (x t refl)
+
+-- how it ends
+pub closing_keeps : (n : ℕ) (x y : Option ℕ) → keeps_finds (closing n x y) ≡ true
+closing_keeps n None None = refl
+closing_keeps n None (Some i) = refl
+closing_keeps n (Some i) y = refl
+
+pub closing_tells : (n : ℕ) (x y : Option ℕ) (k : ℕ) → TellsTypeRounds (closing n x y) k → n ≡ k
+closing_tells n None None k t = t
+closing_tells n None (Some i) k t = t.1
+closing_tells n (Some i) y k t = t.1
+
+pub closing_told : (n : ℕ) (x y : Option ℕ) → rounds_told (closing n x y) ≡ n
+closing_told n None None = omega arith
+closing_told n None (Some i) = refl
+closing_told n (Some i) y = refl
+
+pub closing_accepts : (n : ℕ) (x y : Option ℕ) → accepts (closing n x y) ≡ true → y ≡ None
+closing_accepts n None None e = refl
+closing_accepts n None (Some i) e = absurd cc
+closing_accepts n (Some i) y e = absurd cc
+
+pub closing_nine : (n : ℕ) (x y : Option ℕ) (place : ℕ) → (closing n x y ≡ refused 9 place false n) ↔ (x ≡ Some place)
+closing_nine n x y place = (from x y, λ e. ap (λ v. closing n v y) e)
+  where
+    from : (x y : Option ℕ) → closing n x y ≡ refused 9 place false n → x ≡ Some place
+    from None None e = absurd cc
+    from None (Some i) e = let z : ◌≡◌ {A = ℕ} 10 9 = cc in absurd (omega arith)
+    from (Some i) y e = let z : i ≡ place = cc in ap (λ k. Some k) z
+
+pub closing_ten : (n : ℕ) (y : Option ℕ) (place : ℕ) → (closing n None y ≡ refused 10 place false n) ↔ (y ≡ Some place)
+closing_ten n y place = (from y, λ e. ap (closing n None) e)
+  where
+    from : (y : Option ℕ) → closing n None y ≡ refused 10 place false n → y ≡ Some place
+    from None e = absurd cc
+    from (Some i) e = let z : i ≡ place = cc in ap (λ k. Some k) z
 
 -- what is refused at the place that a test gives is refused at the first place of what the test tells
 pub refused_first : {A : Type 0} (e : Ending) (number n : ℕ) (test : A → Bool) (P : A → Type 0) (xs : List A) → Agree test P xs →

@@ -10,19 +10,19 @@ use Rattle.life.specs.Calls.{Declared, of_oid, of_name, array_of, resolve, array
 use Rattle.life.specs.Keep.{kept_names, kept, call_event}
 use Rattle.life.specs.Life.{Lived, Agrees}
 use Rattle.life.specs.Lists.{is_in, first_place}
-use Rattle.life.specs.Outcomes.{Outcome, if_fits, concluded, unresolved, Fits, RefusedAtFirst}
-use Rattle.life.specs.Resolve.{link_from, entry_oid, oids, offends, lacks, resolved_book, closing_resolve, resolve_ending, resolve_left, resolve_settled, resolve_outcome, ResolveLaw, HasOid, HasNoOid, Resolves, EntryLaw, WrittenLaw, EntryUnresolved, ResolveNineLaw, TenLaw}
+use Rattle.life.specs.Outcomes.{Outcome, if_fits, concluded, closing, unresolved, Fits, RefusedAtFirst}
+use Rattle.life.specs.Resolve.{link_from, entry_oid, oids, offends, lacks, resolved_book, resolve_ending, resolve_left, resolve_settled, resolve_outcome, ResolveLaw, HasOid, HasNoOid, Resolves, EntryLaw, WrittenLaw, EntryUnresolved, ResolveNineLaw, TenLaw}
 use Rattle.life.specs.RoundOne.{asked_in_full, for_arrays_alone, lead, entry_asks, round_one, resolve_walk}
 use Rattle.life.specs.Rounds.{Descriptors, StandsOnce}
 use Rattle.life.specs.Settle.{settled}
-use Rattle.life.specs.Steps.{Book, Ending, refused, rounds_told, accepts, keeps_finds, TellsTypeRounds, Event, NamesStand, Step}
+use Rattle.life.specs.Steps.{Book, Ending, accepts, Event, NamesStand, Step}
 use Rattle.life.specs.Tests.{declares_array}
 use Rattle.life.specs.Walk.{Walked, ended, stopped}
 use Rattle.life.proofs.First.{Stop, Come, resolve_come}
 use Rattle.life.proofs.Keep.{settled_leads, keeping_step, lives_on}
 use Rattle.life.proofs.Life.{fit, agrees}
 use Rattle.life.proofs.Lists.{not_both, not_some_none, split_option, same_truth, in_mem, mem_in, flat_mem, any_tells, place_yes, place_no, place_some}
-use Rattle.life.proofs.Outcomes.{Bare, offence_bare, Next, refusal_next, fitted_next, fits_so, refused_first, unresolved_tells}
+use Rattle.life.proofs.Outcomes.{Bare, offence_bare, Next, refusal_next, fitted_next, fits_so, closing_keeps, closing_tells, closing_told, closing_accepts, closing_nine, closing_ten, refused_first, unresolved_tells}
 use Rattle.life.proofs.Questions.{lead_is, link_is, entry_full, round_full, alone_apart, element_read}
 use Rattle.life.proofs.Standing.{layer_stands}
 use Rattle.life.proofs.Tells.{or_first, declares_array_tells}
@@ -83,41 +83,6 @@ module _ (c : Catalog) (b : Book) (agree : Agrees c b) (ds : List Declared) (n :
     columns = λ r a. no_column done (b.columns r a) (c.columns r a) i;
   }
 
-closing_keeps : (n : ℕ) (x y : Option ℕ) → keeps_finds (closing_resolve n x y) ≡ true
-closing_keeps n None None = refl
-closing_keeps n None (Some i) = refl
-closing_keeps n (Some i) y = refl
-
-closing_tells : (n : ℕ) (x y : Option ℕ) (k : ℕ) → TellsTypeRounds (closing_resolve n x y) k → n ≡ k
-closing_tells n None None k t = t
-closing_tells n None (Some i) k t = t.1
-closing_tells n (Some i) y k t = t.1
-
-closing_told : (n : ℕ) (x y : Option ℕ) → rounds_told (closing_resolve n x y) ≡ n
-closing_told n None None = omega arith
-closing_told n None (Some i) = refl
-closing_told n (Some i) y = refl
-
-closing_accepts : (n : ℕ) (x y : Option ℕ) → accepts (closing_resolve n x y) ≡ true → y ≡ None
-closing_accepts n None None e = refl
-closing_accepts n None (Some i) e = absurd cc
-closing_accepts n (Some i) y e = absurd cc
-
-closing_nine : (n : ℕ) (x y : Option ℕ) (place : ℕ) → (closing_resolve n x y ≡ refused 9 place false n) ↔ (x ≡ Some place)
-closing_nine n x y place = (from x y, λ e. ap (λ v. closing_resolve n v y) e)
-  where
-    from : (x y : Option ℕ) → closing_resolve n x y ≡ refused 9 place false n → x ≡ Some place
-    from None None e = absurd cc
-    from None (Some i) e = let z : ◌≡◌ {A = ℕ} 10 9 = cc in absurd (omega arith)
-    from (Some i) y e = let z : i ≡ place = cc in ap (λ k. Some k) z
-
-closing_ten : (n : ℕ) (y : Option ℕ) (place : ℕ) → (closing_resolve n None y ≡ refused 10 place false n) ↔ (y ≡ Some place)
-closing_ten n y place = (from y, λ e. ap (closing_resolve n None) e)
-  where
-    from : (y : Option ℕ) → closing_resolve n None y ≡ refused 10 place false n → y ≡ Some place
-    from None e = absurd cc
-    from (Some i) e = let z : i ≡ place = cc in ap (λ k. Some k) z
-
 module _ (full : Book → Option ℕ) (h : List Event) (c : Catalog) (b : Book) (ds : List Declared) (laws : Laws c) (l : Lived h c b) where
   resolve_next : (w : Walked) → Come c b (agrees h c b l) ds w → Next c b (resolve ds) laws (concluded b (resolve_settled full c b ds) w)
   resolve_next (ended n reads) g =
@@ -125,7 +90,7 @@ module _ (full : Book → Option ℕ) (h : List Event) (c : Catalog) (b : Book) 
       let after : Descriptors = settled c b.descriptors reads in
       let x : Option ℕ = first_place (offends c b after) 0 ds in
       let y : Option ℕ = first_place (lacks c b after) 0 ds in
-      let e : Ending = closing_resolve n x y in
+      let e : Ending = closing n x y in
       let left : Book = resolve_left full c b ds reads in
       fitted_next c b (resolve ds) laws (full left) (record { ending = e; left = left }) n g.0.2
       (subst (λ (k : Book). Step (call_event c (resolve ds) e) b k) (same_book c b agree ds n reads g.0.0 (accepts e))
@@ -225,7 +190,7 @@ module _ (full : Book → Option ℕ) (h : List Event) (c : Catalog) (b : Book) 
   ten = first_place (lacks c b d) 0 ds
 
   abbrev fine : Outcome
-  fine = record { ending = closing_resolve n nine ten; left = resolve_left full c b ds reads }
+  fine = record { ending = closing n nine ten; left = resolve_left full c b ds reads }
 
   pub out : resolve_outcome full c b ds ≡ fine
   out = fits_so (resolve_outcome full c b ds) fine (full (resolve_left full c b ds reads)) b n (ap (concluded b (resolve_settled full c b ds)) w) fits
@@ -247,7 +212,7 @@ module _ (full : Book → Option ℕ) (h : List Event) (c : Catalog) (b : Book) 
 
   pub refused_nine : RefusedAtFirst (resolve_outcome full c b ds).ending 9 n (EntryUnresolved c) ds
   refused_nine =
-      let told : (resolve_outcome full c b ds).ending ≡ closing_resolve n nine ten = ap (λ (o : Outcome). o.ending) out in
+      let told : (resolve_outcome full c b ds).ending ≡ closing n nine ten = ap (λ (o : Outcome). o.ending) out in
       refused_first (resolve_outcome full c b ds).ending 9 n (offends c b d) (EntryUnresolved c) ds offends_tells
       (λ place. (λ y. (closing_nine n nine ten place).0 (sym told ∙ y), λ y. told ∙ (closing_nine n nine ten place).1 y))
 
@@ -258,7 +223,7 @@ module _ (full : Book → Option ℕ) (h : List Event) (c : Catalog) (b : Book) 
       (λ z. z)
       (λ z. let x = (place_some (offends c b d) (EntryUnresolved c) ds offends_tells 0).0 z in absurd (no_nine x.0 x.1 x.2))
       (split_option nine) in
-      let told : (resolve_outcome full c b ds).ending ≡ closing_resolve n None ten = ap (λ (o : Outcome). o.ending) out ∙ ap (λ v. closing_resolve n v ten) unrefused in
+      let told : (resolve_outcome full c b ds).ending ≡ closing n None ten = ap (λ (o : Outcome). o.ending) out ∙ ap (λ v. closing n v ten) unrefused in
       refused_first (resolve_outcome full c b ds).ending 10 n (lacks c b d) (HasNoOid c d) ds (λ x _. lacks_tells c b (agrees h c b l) d x)
       (λ place. (λ y. (closing_ten n ten place).0 (sym told ∙ y), λ y. told ∙ (closing_ten n ten place).1 y))
 

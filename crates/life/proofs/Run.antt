@@ -8,12 +8,12 @@ use Rattle.keys.specs.Senses.{Pair}
 use Rattle.unfolding.specs.Unfolding.{node}
 use Rattle.life.specs.Bind.{column_questions, types_book, columns_book, column_round, types_settled, bind_settled, bind_outcome}
 use Rattle.life.specs.Calls.{Declared, Binding, Call, fill, resolve, bind, describe, requests}
-use Rattle.life.specs.Fill.{closing, quiet_settled, quiet_outcome}
+use Rattle.life.specs.Fill.{quiet_settled, quiet_outcome}
 use Rattle.life.specs.Keep.{pretty_in, kept, call_event}
 use Rattle.life.specs.Life.{Lived, Agrees}
 use Rattle.life.specs.Lists.{first_place}
-use Rattle.life.specs.Outcomes.{Outcome, fitted, if_fits, concluded, unresolved, TypeRounds}
-use Rattle.life.specs.Resolve.{offends, lacks, closing_resolve, resolve_left, resolve_settled}
+use Rattle.life.specs.Outcomes.{Outcome, fitted, if_fits, concluded, closing, unresolved, TypeRounds}
+use Rattle.life.specs.Resolve.{offends, lacks, resolve_left, resolve_settled}
 use Rattle.life.specs.RoundOne.{asked_oid, for_arrays_alone, refusable, round_one, resolve_walk}
 use Rattle.life.specs.Rounds.{Descriptors, Stands, LastRound}
 use Rattle.life.specs.Run.{TurnedAway, perform, Done, Performed, CountedRun, RoundsLaw, PerformLaw, RunLaw}
@@ -58,14 +58,10 @@ fitted_tells : (f : Option ℕ) (fine : Outcome) (b : Book) (n k : ℕ) → (Typ
 fitted_tells None fine b n k g t = g t
 fitted_tells (Some at) fine b n k g t = t.1
 
-closing_tells : (n : ℕ) (x : Option ℕ) (k : ℕ) → TypeRounds (closing n x) k → n ≡ k
-closing_tells n None k t = t
-closing_tells n (Some i) k t = t.1
-
-closing_resolve_tells : (n : ℕ) (x y : Option ℕ) (k : ℕ) → TypeRounds (closing_resolve n x y) k → n ≡ k
-closing_resolve_tells n None None k t = t
-closing_resolve_tells n None (Some i) k t = t.1
-closing_resolve_tells n (Some i) y k t = t.1
+closing_rounds : (n : ℕ) (x y : Option ℕ) (k : ℕ) → TypeRounds (closing n x y) k → n ≡ k
+closing_rounds n None None k t = t
+closing_rounds n None (Some i) k t = t.1
+closing_rounds n (Some i) y k t = t.1
 
 module _ (full full_columns : Book → Option ℕ) (c : Catalog) (b : Book) (k : ℕ) where
   -- where the outcome after the walk tells its rounds
@@ -79,8 +75,8 @@ module _ (full full_columns : Book → Option ℕ) (c : Catalog) (b : Book) (k :
       walk_rounds rs (quiet_settled full c b (fill rs))
       (λ n reads _.
       let x : Option ℕ = first_place (unresolved c (settled c b.descriptors reads)) 0 rs in
-      let left : Book = kept c (fill rs) reads b (accepts (closing n x)) in
-      fitted_tells (full left) (record { ending = closing n x; left = left }) b n k (closing_tells n x k))
+      let left : Book = kept c (fill rs) reads b (accepts (closing n x None)) in
+      fitted_tells (full left) (record { ending = closing n x None; left = left }) b n k (closing_rounds n x None k))
       (walk_from c b.descriptors rs) (walk_result c b.descriptors rs)
 
   resolve_rounds : (agree : Agrees c b) (ds : List Declared) (w : Walked) → Come c b agree ds w →
@@ -89,7 +85,7 @@ module _ (full full_columns : Book → Option ℕ) (c : Catalog) (b : Book) (k :
       let x : Option ℕ = first_place (offends c b (settled c b.descriptors reads)) 0 ds in
       let y : Option ℕ = first_place (lacks c b (settled c b.descriptors reads)) 0 ds in
       let left : Book = resolve_left full c b ds reads in
-      subst (LastOfCall c b (resolve ds)) (fitted_tells (full left) (record { ending = closing_resolve n x y; left = left }) b n k (closing_resolve_tells n x y k) t)
+      subst (LastOfCall c b (resolve ds)) (fitted_tells (full left) (record { ending = closing n x y; left = left }) b n k (closing_rounds n x y k) t)
       (ended_counts c b.descriptors (requests c (resolve ds)) (NamesStand c b (resolve ds)) (length (for_arrays_alone (round_one c b ds))) n reads g.0.0)
   resolve_rounds agree ds (stopped n p m) g t = absurd (not_late n (stop_early g.0) t.0)
     where

@@ -1,25 +1,20 @@
 -- A whole Fill, computed: the walk, the passes, and refusals 8 and 9.
 -- Assumes nothing.
-use Rattle.std.specs.Prelude.{◌≡◌, ℕ, false, List, Some, None, Option}
+use Rattle.std.specs.Prelude.{◌≡◌, ℕ, List, None, Option}
 use Rattle.catalog.specs.Catalog.{Catalog, Laws}
 use Rattle.life.specs.Calls.{Call, fill, requests}
 use Rattle.life.specs.Keep.{kept, LivesOn}
 use Rattle.life.specs.Life.{Lived}
 use Rattle.life.specs.Lists.{first_place}
-use Rattle.life.specs.Outcomes.{Outcome, if_fits, concluded, unresolved, Unresolved, Fits, RefusedAtFirst}
+use Rattle.life.specs.Outcomes.{Outcome, if_fits, concluded, closing, unresolved, Unresolved, Fits, RefusedAtFirst}
 use Rattle.life.specs.Settle.{settled}
-use Rattle.life.specs.Steps.{Book, Ending, accepted, refused, accepts, Event, NamesStand}
+use Rattle.life.specs.Steps.{Book, Ending, accepts, Event, NamesStand}
 use Rattle.life.specs.Walk.{ended, walk_from}
-
--- accepted, or refused by 9 at this place
-abbrev pub closing : ℕ → Option ℕ → Ending
-closing n None = accepted n 0
-closing n (Some place) = refused 9 place false n
 
 -- `full` tells the first table that a book does not fit into, if any
 module _ (full : Book → Option ℕ) (c : Catalog) (b : Book) (call : Call) where
   abbrev pub quiet_ending : ℕ → List ℕ → Ending
-  quiet_ending n reads = closing n (first_place (unresolved c (settled c b.descriptors reads)) 0 (requests c call))
+  quiet_ending n reads = closing n (first_place (unresolved c (settled c b.descriptors reads)) 0 (requests c call)) None
 
   abbrev pub quiet_settled : ℕ → List ℕ → Outcome
   quiet_settled n reads =

@@ -30,6 +30,12 @@ abbrev pub concluded : Book → (ℕ → List ℕ → Outcome) → Walked → Ou
 concluded b next (ended n reads) = next n reads
 concluded b next (stopped number place rounds) = refusal b number place rounds
 
+-- how it ends after n rounds and what fits: refused by 9 at this place, or else by 10 at that, or accepted
+abbrev pub closing : ℕ → Option ℕ → Option ℕ → Ending
+closing n (Some place) ten = refused 9 place false n
+closing n None (Some place) = refused 10 place false n
+closing n None None = accepted n 0
+
 -- the OID has a row, and is not known
 abbrev pub unresolved : Catalog → Descriptors → ℕ → Bool
 unresolved c d o = is_some (c.rows o) && not (is_some (found d o))

@@ -1,6 +1,6 @@
 -- A whole Resolve, computed: its rounds, the passes, refusals 8 to 10, and the OIDs written.
 -- Assumes nothing.
-use Rattle.std.specs.Prelude.{◌≡◌, ℕ, Bool, true, false, not, ◌||◌, ◌↔◌, List, [], ◌∷◌, is_some, if◌then◌else◌, Some, None, flat_map, Option, option_to_list, option_and_then}
+use Rattle.std.specs.Prelude.{◌≡◌, ℕ, Bool, true, not, ◌||◌, ◌↔◌, List, [], ◌∷◌, is_some, if◌then◌else◌, Some, None, flat_map, Option, option_to_list, option_and_then}
 use Rattle.std.specs.List.{list_any}
 use Rattle.std.specs.Option.{option_or}
 use Rattle.catalog.specs.Catalog.{Catalog, Laws}
@@ -9,11 +9,11 @@ use Rattle.life.specs.Calls.{Declared, of_oid, of_name, array_of, resolve, array
 use Rattle.life.specs.Keep.{if_settled, kept_names, LivesOn}
 use Rattle.life.specs.Life.{Lived}
 use Rattle.life.specs.Lists.{AnyOf, is_in, first_place}
-use Rattle.life.specs.Outcomes.{Outcome, if_fits, concluded, unresolved, Unresolved, Fits, RefusedAtFirst}
+use Rattle.life.specs.Outcomes.{Outcome, if_fits, concluded, closing, unresolved, Unresolved, Fits, RefusedAtFirst}
 use Rattle.life.specs.RoundOne.{asked_in_full, for_arrays_alone, lead, link, entry_asks, round_one, resolve_walk}
 use Rattle.life.specs.Rounds.{Descriptors, Known}
 use Rattle.life.specs.Settle.{settled}
-use Rattle.life.specs.Steps.{Book, Ending, accepted, refused, accepts, Event}
+use Rattle.life.specs.Steps.{Book, Ending, accepts, Event}
 use Rattle.life.specs.Walk.{ended}
 
 module _ (c : Catalog) (b : Book) where
@@ -48,17 +48,11 @@ module _ (c : Catalog) (b : Book) where
     columns = b.columns;
   }
 
--- 9 before 10
-abbrev pub closing_resolve : ℕ → Option ℕ → Option ℕ → Ending
-closing_resolve n None None = accepted n 0
-closing_resolve n None (Some place) = refused 10 place false n
-closing_resolve n (Some place) ten = refused 9 place false n
-
 module _ (full : Book → Option ℕ) (c : Catalog) (b : Book) (ds : List Declared) where
   abbrev pub resolve_ending : ℕ → List ℕ → Ending
   resolve_ending n reads =
       let after : Descriptors = settled c b.descriptors reads in
-      closing_resolve n (first_place (offends c b after) 0 ds) (first_place (lacks c b after) 0 ds)
+      closing n (first_place (offends c b after) 0 ds) (first_place (lacks c b after) 0 ds)
 
   abbrev pub resolve_left : List ℕ → Book
   resolve_left reads = resolved_book c b ds reads (for_arrays_alone (round_one c b ds))

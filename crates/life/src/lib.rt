@@ -1,13 +1,13 @@
 // The laws of a book's life: statements about the definitions of specs/, each asked for by a contract.
 #![tactic(auto)]
 
-mod binding;
-mod filling;
-mod host_calls;
-mod keeping;
-mod ordinals;
-mod performing;
-mod resolving;
-mod rounds;
-mod steps;
-mod telling;
+pub mod binding;
+pub mod filling;
+pub mod host_calls;
+pub mod keeping;
+pub mod ordinals;
+pub mod performing;
+pub mod resolving;
+pub mod rounds;
+pub mod steps;
+pub mod telling;
