@@ -1,4 +1,5 @@
--- The passes settle exactly the OIDs read that have an unfolding. Assumes nothing.
+-- The passes settle exactly the OIDs read that have an unfolding.
+-- Assumes nothing.
 use Rattle.std.proofs.Common.{◌≡◌, ℕ, zero, suc, ◌+◌, ◌<◌, ◌≤◌, false, ◌⊎◌, List, [], ◌∷◌, length, is_some, nat_eq, Some, None, Option, option_map, option_and_then, sym, refl, ap, ◌∙◌, subst, inl, inr, ⊎_elim, arith, eq-eqb, eqb-true}
 use Rattle.std.proofs.lemmas.Bool.{cases_Bool, cond-false, cond-true}
 use Rattle.catalog.specs.Catalog.{Catalog}

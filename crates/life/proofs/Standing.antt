@@ -1,4 +1,5 @@
--- The rounds as lists. Assumes nothing.
+-- The rounds as lists.
+-- Assumes nothing.
 use Rattle.std.proofs.Common.{ℕ, zero, suc, ◌⊎◌, List, [], ◌++◌, nat_eq, refl, inl, inr, ⊎_elim}
 use Rattle.std.proofs.lemmas.Bool.Decides.{Decides-eqb}
 use Rattle.catalog.specs.Catalog.{Catalog}
