@@ -10,11 +10,10 @@ use Rattle.catalog.specs.declared.faults.Told.{Told}
 use Rattle.keys.specs.Senses.{Pair}
 use Rattle.life.specs.Bind.{column_questions, types_book, columns_book, column_round, types_settled}
 use Rattle.life.specs.Calls.{Declared, Binding, fill, resolve, bind, requests}
-use Rattle.life.specs.Fill.{closing}
 use Rattle.life.specs.HostCalls.{ResolveAsked, BindAsked, HostCall, host_fill, host_resolve, host_bind, host_describe, meant, meant_type, meant_field, numbered, early_refusal, unless_early, first_behind, asked_outcome}
 use Rattle.life.specs.Lists.{fresh, first_place}
-use Rattle.life.specs.Outcomes.{Outcome, refusal, fitted, if_fits, concluded, unresolved}
-use Rattle.life.specs.Resolve.{offends, lacks, closing_resolve}
+use Rattle.life.specs.Outcomes.{Outcome, refusal, fitted, if_fits, concluded, closing, unresolved}
+use Rattle.life.specs.Resolve.{offends, lacks}
 use Rattle.life.specs.RoundOne.{Question, asked_oid, asked_in_full, refusable, any_question, asks_name, round_one, first_opened, resolve_walk}
 use Rattle.life.specs.Run.{perform}
 use Rattle.life.specs.Settle.{settled}
@@ -139,7 +138,7 @@ module _ (full full_columns : Book → Option ℕ) (c : Catalog) (b : Book) wher
       of_layer : (l : Layer) → (l ≡ layer.Columns → ⊥) → MayLayer call l
       of_layer l x = x
 
-      closes : (n : ℕ) (x : Option ℕ) → Right call (closing n x)
+      closes : (n : ℕ) (x : Option ℕ) → Right call (closing n x None)
       closes n None = tt
       closes n (Some place) = nine call may of_layer place n
 
@@ -160,7 +159,7 @@ module _ (full full_columns : Book → Option ℕ) (c : Catalog) (b : Book) wher
       of_layer : (l : Layer) → (l ≡ layer.Columns → ⊥) → MayLayer call l
       of_layer l x = x
 
-      closes : (n : ℕ) (x y : Option ℕ) → Right call (closing_resolve n x y)
+      closes : (n : ℕ) (x y : Option ℕ) → Right call (closing n x y)
       closes n None None = tt
       closes n None (Some place) = (inr refl, (omega arith, omega arith), call_apart)
       closes n (Some place) y = nine call may of_layer place n
