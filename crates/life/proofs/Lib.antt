@@ -21,3 +21,4 @@ pub mod Reading
 pub mod HostCalls
 pub mod Told
 pub mod Ordinal
+pub mod Buffers

@@ -19,3 +19,4 @@ pub mod Reading
 pub mod HostCalls
 pub mod Told
 pub mod Ordinal
+pub mod Buffers

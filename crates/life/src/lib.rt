@@ -11,3 +11,4 @@ pub mod resolving;
 pub mod rounds;
 pub mod steps;
 pub mod telling;
+pub mod writing;
