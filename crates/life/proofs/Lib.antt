@@ -22,3 +22,4 @@ pub mod HostCalls
 pub mod Told
 pub mod Ordinal
 pub mod Buffers
+pub mod Faults

@@ -20,3 +20,4 @@ pub mod HostCalls
 pub mod Told
 pub mod Ordinal
 pub mod Buffers
+pub mod Faults
