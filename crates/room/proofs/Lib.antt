@@ -1,1 +1,4 @@
 pub mod Fitting
+pub mod LookUp
+pub mod Additions
+pub mod Holding

@@ -2,4 +2,5 @@
 // definitions of specs/, each asked for by a contract.
 #![tactic(auto)]
 
+mod adding;
 mod sizes;
