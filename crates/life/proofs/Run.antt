@@ -129,7 +129,7 @@ rounds_law full full_columns h c b (resolve ds) l k t =
 rounds_law full full_columns h c b (bind q) l k t = bind_rounds full full_columns c b k q t
 rounds_law full full_columns h c b (describe o) l k t = subst (LastOfCall c b (describe o)) t (nothing_last c b o)
 
-away_silent : (e : Ending) (k : ℕ) → TurnedAway e → TypeRounds e k → ⊥
+pub away_silent : (e : Ending) (k : ℕ) → TurnedAway e → TypeRounds e k → ⊥
 away_silent (accepted n m) k x t = x
 away_silent (refused n p false r) k x t = omega (arith, x.0, t.0)
 away_silent (refused n p true r) k x t = absurd (not_both refl x.1)
@@ -191,7 +191,7 @@ module _ (full full_columns : Book → Option ℕ) where
   event_is e g y a =
       sym (λ i. record { before = e.before; after = (a ∙ ap (λ v. spent e.before (e.before.allowance - rounds_told v)) y) i; call = e.call; ending = y i })
 
-  done_step : (h : List Event) (e : Event) (b after : Book) → Lived h e.before b → Done full full_columns e b after → Step e b after
+  pub done_step : (h : List Event) (e : Event) (b after : Book) → Lived h e.before b → Done full full_columns e b after → Step e b after
   done_step h e b after l d =
       ⊎_elim
       (λ x.

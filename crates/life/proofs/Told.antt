@@ -24,14 +24,14 @@ use Rattle.life.proofs.HostCalls.{early_number}
 use Rattle.life.proofs.Lists.{same_some, not_some_none, split_option, chosen_true, chosen_false}
 
 -- the numbers of a refusal within the type rounds, with what place and rounds they have
-abbrev Within : (number place rounds : ℕ) → Type 0
+abbrev pub Within : (number place rounds : ℕ) → Type 0
 Within n p r = ((n ≡ 4) × (p ≡ 65) × (r ≡ 64)) ⊎ (((n ≡ 5) × (p ≡ suc r)) ⊎ ((n ≡ 6) ⊎ (n ≡ 7)))
 
 abbrev AskTold : Asked → Type 0
 AskTold (all_read left) = Unit {0}
 AskTold (stop n p) = (n ≡ 6) ⊎ (n ≡ 7)
 
-abbrev WalkTold : Walked → Type 0
+abbrev pub WalkTold : Walked → Type 0
 WalkTold (ended n reads) = Unit {0}
 WalkTold (stopped n p r) = Within n p r
 
@@ -59,10 +59,10 @@ walk_told c skip (suc fuel) opened left (suc allowance) (o ∷ os) seen e =
     (λ rest.
     walk_told c skip fuel (suc opened) rest allowance (fresh skip (seen ++ (o ∷ os)) (links_of c (o ∷ os))) (seen ++ (o ∷ os)) (omega (arith, e)))
 
-oids_told : (c : Catalog) (b : Book) (rs : List ℕ) → WalkTold (walk_from c b.descriptors rs)
+pub oids_told : (c : Catalog) (b : Book) (rs : List ℕ) → WalkTold (walk_from c b.descriptors rs)
 oids_told c b rs = walk_told c (answered b.descriptors) 64 0 256 c.allowance (fresh (answered b.descriptors) [] rs) [] refl
 
-resolve_told : (c : Catalog) (b : Book) (ds : List Declared) → WalkTold (resolve_walk c b ds)
+pub resolve_told : (c : Catalog) (b : Book) (ds : List Declared) → WalkTold (resolve_walk c b ds)
 resolve_told c b ds =
     ⊎_elim (λ y. subst WalkTold (sym (chosen_true test opened (ended 0 []) y)) (first c.allowance)) (λ n. subst WalkTold (sym (chosen_false test opened (ended 0 []) n)) tt)
     (cases_Bool test)

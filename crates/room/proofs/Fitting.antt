@@ -9,7 +9,7 @@ use Rattle.catalog.specs.Shape.{Name}
 use Rattle.keys.specs.Senses.{Pair}
 use Rattle.unfolding.specs.Unfolding.{Tree}
 use Rattle.life.proofs.Lists.{not_both, not_some_none, same_some}
-use Rattle.room.specs.Sizes.{Sizes, at, parts_of, tree_bytes, first_from, first_full, HasRoom, LacksRoom, FirstFull, AllFits, FirstFullLaw, SumLaw}
+use Rattle.room.specs.Sizes.{Sizes, at, parts_of, tree_bytes, first_from, first_full, HasRoom, LacksRoom, FirstFull, AllFits, FirstFullLaw, SumLaw, CapacityLaw}
 
 from_there : (i k : ℕ) → i ≤ k → (i ≡ k) ⊎ (i < k)
 from_there i k p = ⊎_elim (λ l. inr l) (λ g. inl (omega arith)) (cases_lt i k)
@@ -131,3 +131,13 @@ sum_law t more (suc (suc (suc (suc zero)))) l =
 sum_law t more (suc (suc (suc (suc (suc zero))))) l = length-append t.columns more.columns
 sum_law t more (suc (suc (suc (suc (suc (suc zero)))))) l = length-append t.relations more.relations
 sum_law t more (suc (suc (suc (suc (suc (suc (suc i))))))) l = absurd (omega arith)
+
+pub capacity_law : CapacityLaw
+capacity_law slots zero l = refl
+capacity_law slots (suc zero) l = refl
+capacity_law slots (suc (suc zero)) l = refl
+capacity_law slots (suc (suc (suc zero))) l = refl
+capacity_law slots (suc (suc (suc (suc zero)))) l = refl
+capacity_law slots (suc (suc (suc (suc (suc zero))))) l = refl
+capacity_law slots (suc (suc (suc (suc (suc (suc zero)))))) l = refl
+capacity_law slots (suc (suc (suc (suc (suc (suc (suc i))))))) l = absurd (omega arith)

@@ -150,4 +150,8 @@ entry_law t h = (
   λ n o. (mem_look bytes_eq bytes_eq-Decides t.names h.names n o, look_mem bytes_eq bytes_eq-Decides t.names n o),
   λ e a. (mem_look nat_eq Decides-eqb t.arrays h.arrays e a, look_mem nat_eq Decides-eqb t.arrays e a),
   λ r a k. (mem_look same_pair same-pair t.columns h.columns (r, a) k, look_mem same_pair same-pair t.columns (r, a) k),
+  λ r n. (
+    λ m. (h.related r n).0 (mem_look nat_eq Decides-eqb t.relations h.relations r n m),
+    λ x. look_mem nat_eq Decides-eqb t.relations r n ((h.related r n).1 x),
+  ),
 )

@@ -2,3 +2,5 @@ pub mod Fitting
 pub mod LookUp
 pub mod Additions
 pub mod Holding
+pub mod Outcome
+pub mod Room

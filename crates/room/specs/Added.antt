@@ -100,8 +100,8 @@ pub record Held (t : Tables) : Type 0 where
       (r : ℕ) (n : Name) →
       (look_up nat_eq t.relations r ≡ Some n) ↔ ((a : ℤ) × (k : CatalogColumn) × (look_up same_pair t.columns (r, a) ≡ Some k) × (k.table ≡ n))
 
--- so many entries that hold each key once are as many as the keys that their book answers: an entry is there exactly if its book
--- answers its key with its value
+-- in tables that hold each key once, an entry is there exactly if their book answers its key with its value, and a relation exactly if
+-- it answers one of its columns, so to count entries is to count what the book holds
 abbrev pub EntryLaw : Type 0
 EntryLaw =
     (t : Tables) → Held t →
@@ -109,7 +109,8 @@ EntryLaw =
     ((o : ℕ) (u : Tree) → Mem (o, u) t.descriptors ↔ (b.descriptors o ≡ Some u)) ×
     ((n : Name) (o : ℕ) → Mem (n, o) t.names ↔ (b.names n ≡ Some o)) ×
     ((e a : ℕ) → Mem (e, a) t.arrays ↔ (b.arrays e ≡ Some a)) ×
-    ((r : ℕ) (a : ℤ) (k : CatalogColumn) → Mem ((r, a), k) t.columns ↔ (b.columns r a ≡ Some k))
+    ((r : ℕ) (a : ℤ) (k : CatalogColumn) → Mem ((r, a), k) t.columns ↔ (b.columns r a ≡ Some k)) ×
+    ((r : ℕ) (n : Name) → Mem (r, n) t.relations ↔ ((a : ℤ) × (k : CatalogColumn) × (b.columns r a ≡ Some k) × (k.table ≡ n)))
 
 -- these rows are those that stand in the call on this book
 abbrev pub ReadWhatStands : Catalog → Tables → Call → List ℕ → Type 0

@@ -1,3 +1,4 @@
 pub mod Tables
 pub mod Sizes
 pub mod Added
+pub mod Room

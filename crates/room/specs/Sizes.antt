@@ -114,3 +114,7 @@ FirstFullLaw =
 -- what is held and what is added, together
 abbrev pub SumLaw : Type 0
 SumLaw = (t more : Tables) (i : ℕ) → i < 7 → at (sizes_of (extended t more)) i ≡ at (sizes_of t) i + at (sizes_of more) i
+
+-- of each table the slots, or the limit if that is less
+abbrev pub CapacityLaw : Type 0
+CapacityLaw = (slots : Sizes) (i : ℕ) → i < 7 → at (capacities slots) i ≡ min (at slots i) (at limits i)

@@ -3,4 +3,5 @@
 #![tactic(auto)]
 
 mod adding;
+mod limits;
 mod sizes;
