@@ -4,3 +4,4 @@ pub mod Additions
 pub mod Holding
 pub mod Outcome
 pub mod Room
+pub mod Order

@@ -2,3 +2,4 @@ pub mod Tables
 pub mod Sizes
 pub mod Added
 pub mod Room
+pub mod Order
