@@ -5,3 +5,4 @@ pub mod Holding
 pub mod Outcome
 pub mod Room
 pub mod Order
+pub mod Asked

@@ -3,3 +3,4 @@ pub mod Sizes
 pub mod Added
 pub mod Room
 pub mod Order
+pub mod Asked
