@@ -4,3 +4,4 @@ pub mod Steps
 pub mod HostCalls
 pub mod Lives
 pub mod Hollow
+pub mod Capacities

@@ -2,6 +2,7 @@
 #![tactic(auto)]
 
 ghost use Rattle.worked_examples.specs.BuiltIn.{BuiltInExamples};
+ghost use Rattle.worked_examples.specs.Capacities.{CapacityExamples};
 ghost use Rattle.worked_examples.specs.Hollow.{HollowLaw};
 ghost use Rattle.worked_examples.specs.HostCalls.{EarlyExamples, OrdinalExamples};
 ghost use Rattle.worked_examples.specs.Lives.{LifeExamples};
@@ -15,6 +16,7 @@ pub fn examples_hold()
     ensures life { LifeExamples }
     ensures early { EarlyExamples }
     ensures ordinal { OrdinalExamples }
+    ensures capacities { CapacityExamples }
 {}
 
 // Hollow bodies do not satisfy what is said: one that keeps nothing, answers nothing or the same for all, that stops a round short,

@@ -99,4 +99,23 @@ returns c = record {
     outside = refl;
     outside_too = refl;
   };
+  capacities = record {
+    whole = refl;
+    fifteen = refl;
+    just_fits = refl;
+    no_descriptor = refl;
+    no_part = refl;
+    no_name = refl;
+    no_byte = refl;
+    nothing_kept = refl;
+    again = refl;
+    declared = refl;
+    hue_too = refl;
+    hue_left = refl;
+    columns = refl;
+    no_column_byte = refl;
+    no_column = refl;
+    no_relation = refl;
+    types_kept = refl;
+  };
 }
