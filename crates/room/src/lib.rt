@@ -2,6 +2,6 @@
 // definitions of specs/, each asked for by a contract.
 #![tactic(auto)]
 
-mod adding;
-mod limits;
-mod sizes;
+pub mod adding;
+pub mod limits;
+pub mod sizes;
