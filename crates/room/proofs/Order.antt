@@ -167,8 +167,8 @@ module _ (capacity : Sizes) (c : Catalog) (t u : Tables) (ht : Held t) (hu : Hel
   alike_left =
       let o : Outcome = limited capacity c u call in
       let chosen : Alike (choose (accepts o.ending) (keeps_finds o.ending) all_t (typed capacity c t call) t) (tables_left capacity c u call) =
-        alike_chosen (accepts o.ending) (keeps_finds o.ending) all_t (typed capacity c t call) t all_u (typed capacity c u call) u
-          (alike_with (typed capacity c t call) (typed capacity c u call) (new_columns capacity c t call) (new_columns capacity c u call) alike_typed same_columns) alike_typed a in
+      alike_chosen (accepts o.ending) (keeps_finds o.ending) all_t (typed capacity c t call) t all_u (typed capacity c u call) u
+      (alike_with (typed capacity c t call) (typed capacity c u call) (new_columns capacity c t call) (new_columns capacity c u call) alike_typed same_columns) alike_typed a in
       record { book = ap contents same_left ∙ chosen.book; sizes = ap sizes_of same_left ∙ chosen.sizes }
 
 pub order_law : OrderLaw
