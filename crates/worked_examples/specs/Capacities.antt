@@ -1,14 +1,16 @@
 -- Worked examples of capacities: what a table takes, and the first one that is full.
 -- Assumes nothing.
-use Rattle.std.specs.Prelude.{◌≡◌, ℕ, true, false, [], ◌∷◌, codes}
+use Rattle.std.specs.Prelude.{◌≡◌, ℕ, true, false, [], ◌∷◌, Some, codes}
 use Rattle.catalog.specs.Catalog.{Catalog}
+use Rattle.catalog.specs.Shape.{enumeration}
+use Rattle.unfolding.specs.Unfolding.{node, none}
 use Rattle.life.specs.Calls.{of_name, Call, fill, resolve, bind}
 use Rattle.life.specs.Steps.{Ending, accepted, refused}
 use Rattle.room.specs.Room.{limited, tables_left}
 use Rattle.room.specs.Sizes.{Sizes, sizes_of, limits, capacities}
-use Rattle.room.specs.Tables.{Tables, no_tables}
-use Rattle.worked_examples.specs.Cards.{prices, columned}
-use Rattle.worked_examples.specs.Steps.{asked}
+use Rattle.room.specs.Tables.{Tables, no_tables, contents}
+use Rattle.worked_examples.specs.Cards.{prices, parts, columned}
+use Rattle.worked_examples.specs.Steps.{nowhere_and_two, asked}
 
 -- seven numbers, in the order of the tables
 abbrev pub sizes : (descriptors parts names arrays text columns relations : ℕ) → Sizes
@@ -29,6 +31,10 @@ exactly = sizes 1 2 1 0 15 0 0
 
 abbrev pub edge_tables : Tables
 edge_tables = left exactly (prices 64) no_tables fill_edge
+
+-- full size but for parts, for which there is no room
+abbrev pub partless : Sizes
+partless = sizes 512 0 1024 1024 65536 1024 128
 
 -- a Bind that learns it too, and one column: amount, of the table yield
 abbrev pub bind_edge : Call
@@ -55,3 +61,10 @@ pub record CapacityExamples : Type 0 where
   pub no_column : ends (sizes 1 2 1 0 26 0 0) (columned 64) no_tables bind_edge ≡ refused 8 5 true 2
   pub no_relation : ends (sizes 1 2 1 0 26 1 0) (columned 64) no_tables bind_edge ≡ refused 8 6 true 2
   pub types_kept : left (sizes 1 2 1 0 26 1 0) (columned 64) no_tables bind_edge ≡ edge_tables
+  -- room before resolution
+  pub no_parts : ends partless parts no_tables (resolve nowhere_and_two) ≡ refused 8 1 false 2
+  pub no_parts_left : left partless parts no_tables (resolve nowhere_and_two) ≡ no_tables
+  pub full_size : ends limits parts no_tables (resolve nowhere_and_two) ≡ refused 9 1 false 2
+  pub full_size_left :
+      (contents (left limits parts no_tables (resolve nowhere_and_two))).descriptors 50001
+      ≡ Some (node 50001 (codes "one") (enumeration (codes "label" ∷ [])) none)

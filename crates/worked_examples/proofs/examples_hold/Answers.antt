@@ -117,5 +117,9 @@ returns c = record {
     no_column = refl;
     no_relation = refl;
     types_kept = refl;
+    no_parts = refl;
+    no_parts_left = refl;
+    full_size = refl;
+    full_size_left = refl;
   };
 }
