@@ -68,8 +68,7 @@ fn run(rt: &HostRuntime, session: &mut Session<'_>, text: &[u8]) -> anyhow::Resu
 // Runs a session over memory of its own.
 fn run_session(rt: &HostRuntime, text: &[u8]) -> anyhow::Result<bool> {
     let mut memory = TableMemory::new(rt.alloc())?;
-    let mut session =
-        Session::new(memory.lend()).ok_or(anyhow!("no memory for a row table"))?;
+    let mut session = Session::new(memory.lend()).ok_or(anyhow!("no memory for a row table"))?;
     run(rt, &mut session, text)
 }
 

@@ -10,8 +10,7 @@ use std::io::Write;
 fn show(rt: &HostRuntime, path: &str) -> anyhow::Result<()> {
     let text = fs::read(rt, path)?;
     let mut memory = TableMemory::new(rt.alloc())?;
-    let mut session =
-        Session::new(memory.lend()).ok_or(anyhow!("no memory for a row table"))?;
+    let mut session = Session::new(memory.lend()).ok_or(anyhow!("no memory for a row table"))?;
     let mut out = Vec::new(rt.alloc());
     let _rest = session.run(text.as_slice(), usize::MAX, &mut out)?;
     session.close(&mut out)?;
