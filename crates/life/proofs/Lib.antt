@@ -8,6 +8,7 @@ pub mod Walk
 pub mod Ends
 pub mod Tells
 pub mod Settle
+pub mod InTurn
 pub mod Keep
 pub mod Outcomes
 pub mod Fill

@@ -16,7 +16,7 @@ use Rattle.life.proofs.Lists.{not_both, not_some_none, split_option, none_not_so
 abbrev pub Ext : Descriptors → Descriptors → Type 0
 Ext b d = (o : ℕ) (t : Tree) → b o ≡ Some t → d o ≡ Some t
 
-put_cases : (b : Descriptors) (o : ℕ) (t : Tree) (p : ℕ) → ((p ≡ o) × (put b o t p ≡ Some t)) ⊎ ((p ≡ o → ⊥) × (put b o t p ≡ b p))
+pub put_cases : (b : Descriptors) (o : ℕ) (t : Tree) (p : ℕ) → ((p ≡ o) × (put b o t p ≡ Some t)) ⊎ ((p ≡ o → ⊥) × (put b o t p ≡ b p))
 put_cases b o t p =
     ⊎_elim
     (λ y. inl (sym (eqb-true o p y), cond-true (nat_eq o p) (Some t) (b p) y))
@@ -70,13 +70,13 @@ module _ (c : Catalog) where
       let m = made_some b o t e in
       subst (Unfolds c o) m.4 (m.0, m.2, nb, refl, refl, refl, gather_right b g m.0.links m.1 m.3)
 
-  made_ext : (b d : Descriptors) → Ext b d → (o : ℕ) (t : Tree) → made c b o ≡ Some t → made c d o ≡ Some t
+  pub made_ext : (b d : Descriptors) → Ext b d → (o : ℕ) (t : Tree) → made c b o ≡ Some t → made c d o ≡ Some t
   made_ext b d x o t e =
       let m = made_some b o t e in
       some_made d o m.0 m.1 m.2 (gather_ext b d x m.0.links m.1 m.3) ∙ ap (λ u. Some u) m.4
 
   -- one row: settled already or not to be settled yet, or settled now
-  one_cases : (b : Descriptors) (o : ℕ) →
+  pub one_cases : (b : Descriptors) (o : ℕ) →
       ((settle_one c b o ≡ b) × (b o ≡ None → made c b o ≡ None)) ⊎
       ((t : Tree) × (b o ≡ None) × (made c b o ≡ Some t) × (settle_one c b o ≡ put b o t))
   one_cases b o =
@@ -90,25 +90,25 @@ module _ (c : Catalog) where
       (λ h. inl (chosen_true (is_some (b o)) b (put_if b o (made c b o)) (ap is_some h.1), λ n. absurd (not_some_none h.0 h.1 n)))
       (split_option (b o))
 
-  put_ext : (b : Descriptors) (o : ℕ) (t : Tree) → b o ≡ None → Ext b (put b o t)
+  pub put_ext : (b : Descriptors) (o : ℕ) (t : Tree) → b o ≡ None → Ext b (put b o t)
   put_ext b o t n p u e =
       ⊎_elim
       (λ y. absurd (not_some_none u (sym (ap b y.0) ∙ e) n))
       (λ y. y.1 ∙ e)
       (put_cases b o t p)
 
-  one_ext : (b : Descriptors) (o : ℕ) → Ext b (settle_one c b o)
+  pub one_ext : (b : Descriptors) (o : ℕ) → Ext b (settle_one c b o)
   one_ext b o =
       ⊎_elim
       (λ x. subst (Ext b) (sym x.0) (λ p t e. e))
       (λ x. subst (Ext b) (sym x.3) (put_ext b o x.0 x.1))
       (one_cases b o)
 
-  pass_ext : (os : List ℕ) (b : Descriptors) → Ext b (pass c b os)
+  pub pass_ext : (os : List ℕ) (b : Descriptors) → Ext b (pass c b os)
   pass_ext [] b p t e = e
   pass_ext (o ∷ os) b p t e = pass_ext os (settle_one c b o) p t (one_ext b o p t e)
 
-  passes_ext : (reads : List ℕ) (n : ℕ) (b : Descriptors) → Ext b (passes c reads n b)
+  pub passes_ext : (reads : List ℕ) (n : ℕ) (b : Descriptors) → Ext b (passes c reads n b)
   passes_ext reads zero b p t e = e
   passes_ext reads (suc n) b p t e = passes_ext reads n (pass c b reads) p t (pass_ext reads b p t e)
 
@@ -283,7 +283,7 @@ module _ (c : Catalog) where
         completes (more t ts) [] u near = absurd u
         completes (more t ts) (o ∷ os) u near = λ i. joined (complete t o u.0 (near o (inl refl)) i) (completes ts os u.1 (λ p m. near p (inr m)) i)
 
-  settled_still : (b : Descriptors) (reads : List ℕ) → Still c (settled c b reads) reads
+  pub settled_still : (b : Descriptors) (reads : List ℕ) → Still c (settled c b reads) reads
   settled_still b reads = settles reads (length reads) b (open_length b reads)
 
   pub settled_right : (b : Descriptors) (reads : List ℕ) → ((o : ℕ) → Mem o reads → built_in o ≡ false) → Right c b → Right c (settled c b reads)

@@ -6,6 +6,7 @@ pub mod Life
 pub mod Walk
 pub mod Stops
 pub mod Settle
+pub mod InTurn
 pub mod Tests
 pub mod Keep
 pub mod Outcomes

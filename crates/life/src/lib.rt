@@ -9,6 +9,7 @@ pub mod ordinals;
 pub mod performing;
 pub mod resolving;
 pub mod rounds;
+pub mod settling;
 pub mod steps;
 pub mod telling;
 pub mod writing;
