@@ -1,12 +1,12 @@
 -- What `intern` leaves where it adds a name. Assumes nothing.
-use Rattle.std.proofs.Common.{◌≡◌, ℕ, List, length, Some, refl, ap, ◌∙◌, cond, arith, length-append, length-drop, Option}
+use Rattle.std.proofs.Common.{◌≡◌, ℕ, List, length, Some, None, refl, ap, ◌∙◌, cond, arith, length-append, length-drop, Option}
 use Rattle.std.specs.Str.{bytes_eq}
 use Rattle.keys.specs.Senses.{bytes_digest}
 use Rattle.keys.specs.Spans.{span_bytes, span_end}
 use Rattle.keys.specs.declared.span.Span.{Span}
 use Rattle.slots.specs.declared.map.Stop.TheVariants.{Gap}
 use Rattle.slots.specs.Slots.{Entry, Kept, Told, Free, Added, Steady}
-use Rattle.slots.specs.Text.{Laid, LentText, lent}
+use Rattle.slots.specs.Text.{Appended, Laid, LentText, lent}
 use Rattle.indexes.specs.Known.{by_name, known, GainedName, HasRoom, Interned, Names}
 
 module _ {V : Type 0} where
@@ -43,3 +43,15 @@ module _ {V : Type 0} where
         lent = still_lent;
       },
     )
+
+  -- bytes that are no name leave what the table knows
+  module _ (t : Names V) (kept : Kept span_bytes bytes_digest span_end t.text.text t.slots)
+      (steady : (more : List ℕ) → Steady bytes_eq span_bytes bytes_digest span_end t.text.text more t.slots)
+      (bytes : List ℕ) (after : LentText) where
+    pub kept_behind : (r : Option Span) → Appended t.text bytes r after → Kept span_bytes bytes_digest span_end after.text t.slots
+    kept_behind (Some span) laid = rw laid.text (record { sound = (steady bytes).sound kept.sound; within = (steady bytes).within })
+    kept_behind None same = rw same.1 kept
+
+    pub known_behind : (r : Option Span) → Appended t.text bytes r after → (q : List ℕ) → known (record { text = after; slots = t.slots }) q ≡ known t q
+    known_behind (Some span) laid q = ap (λ (text : List ℕ). by_name text t.slots q) laid.text ∙ (steady bytes).holds q
+    known_behind None same q = ap (λ (x : LentText). by_name x.text t.slots q) same.1

@@ -2,6 +2,7 @@
 ghost use Rattle.std.specs.Prelude.{◌≡◌, ℕ, List, [], length, None};
 ghost use Rattle.indexes.specs.Known.{GainedName, HasRoom, Interned, known, looks_by_name};
 ghost use Rattle.slots.specs.Slots.{filled};
+ghost use Rattle.slots.specs.Text.{Appended, lent};
 
 use keys::kinds::Name;
 use keys::span::Span;
@@ -50,6 +51,38 @@ impl<'a, V: Copy> NameIndex<'a, V> {
         ensures { result ≡ filled self.now.slots }
     {
         self.count
+    }
+
+    // How many names there are slots for.
+    pub fn capacity(&self) -> usize
+        ensures { result ≡ length self.now.slots }
+    {
+        self.map.slots.len()
+    }
+
+    // The text that the names lie in, with all else that was laid there.
+    pub fn text(&self) -> &[u8]
+        ensures { result.now ≡ self.now.text.text }
+    {
+        self.text.get()
+    }
+
+    // How many bytes are lent for it.
+    pub fn bytes_lent(&self) -> usize
+        ensures { result ≡ lent self.now.text }
+    {
+        self.text.lent()
+    }
+
+    // Lays bytes behind the text, where there is room, and adds no name.
+    pub fn append(&mut self, bytes: &[u8]) -> Option<Span>
+        ensures slots { self.new.slots ≡ self.old.slots }
+        ensures knows { (q : List ℕ) → known self.new q ≡ known self.old q }
+        ensures lent { lent self.new.text ≡ lent self.old.text }
+        ensures text { Appended self.old.text bytes.now result self.new.text }
+    {
+        self.lookup().growth();
+        self.text.append(bytes)
     }
 
     // The map over the text.

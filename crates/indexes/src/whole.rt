@@ -50,6 +50,23 @@ impl<'a, K: WholeKey, V: Copy> Index<'a, K, V> {
         self.count
     }
 
+    // How many slots are lent.
+    pub fn capacity(&self) -> usize
+        ensures { result ≡ length self.now }
+    {
+        self.map.slots.len()
+    }
+
+    // Takes every key out.
+    pub fn clear(&mut self)
+        ensures holds { (q : K.Key.Sense) → held K.alike (K.stands []) self.new q ≡ None }
+        ensures count { filled self.new ≡ 0 }
+        ensures size { length self.new ≡ length self.old }
+    {
+        self.map.clear::<K>();
+        self.count = 0;
+    }
+
     pub fn find(&self, key: K) -> Option<V>
         ensures { result ≡ held K.alike (K.stands []) self.now (K.means key) }
     {

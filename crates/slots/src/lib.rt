@@ -2,4 +2,5 @@
 #![tactic(auto)]
 
 pub mod map;
+pub mod stack;
 pub mod text;

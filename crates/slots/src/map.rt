@@ -103,8 +103,19 @@ impl<'a, S: Copy, V: Copy> Map<'a, S, V> {
         ensures count { filled result.slots.now ≡ 0 }
         ensures size { length result.slots.now ≡ length slots.old }
     {
-        slots.fill(None);
-        Map { slots }
+        let mut map = Map { slots };
+        map.clear::<K>();
+        map
+    }
+
+    // Empties every slot.
+    pub fn clear<K: Key<Stored = S>>(&mut self)
+        ensures kept { (text : List ℕ) → Kept K.stands K.digest K.extent text self.new.slots.now }
+        ensures holds { (text : List ℕ) (q : K.Key.Sense) → held K.alike (K.stands text) self.new.slots.now q ≡ None }
+        ensures count { filled self.new.slots.now ≡ 0 }
+        ensures size { length self.new.slots.now ≡ length self.old.slots.now }
+    {
+        self.slots.fill(None);
     }
 
     // The map over a text in which its stored keys lie.

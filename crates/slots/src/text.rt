@@ -36,6 +36,13 @@ impl<'a> Text<'a> {
         &self.bytes[..self.used]
     }
 
+    // How many bytes are lent.
+    pub fn lent(&self) -> usize
+        ensures { result ≡ lent self.now }
+    {
+        self.bytes.len()
+    }
+
     // Lays bytes behind the text, unless they do not fit: then nothing changes.
     pub fn append(&mut self, bytes: &[u8]) -> Option<Span>
         ensures room { lent self.new ≡ lent self.old }

@@ -1,7 +1,7 @@
 use Rattle.std.proofs.Common.{rules}
 use Rattle.slots.proofs.Held.{Blank, Blank-replicate, blank-held}
 use Rattle.slots.proofs.Kept.{blank-kept}
-use Rattle.slots.proofs.map.Map.empty.Goals as goal
+use Rattle.slots.proofs.map.Map.clear.Goals as goal
 
 pub returns-clause-kept : goal.returns-clause-kept
 returns-clause-kept g c =
