@@ -1,0 +1,5 @@
+pub mod Growth
+pub mod Put
+pub mod Appended
+pub mod Room
+pub mod Columns

@@ -1,12 +1,12 @@
 -- What a book holds: its descriptors, names, array links and columns, and how much room is taken and may be.
 -- Assumes nothing.
-use Rattle.std.specs.Prelude.{◌≡◌, ℕ, ◌+◌, ◌≤◌, List, [], ◌∷◌, ◌++◌, length, nat_eq, bytes_eq, Some, None, Option, unwrap_or}
+use Rattle.std.specs.Prelude.{◌≡◌, ℕ, ◌+◌, ◌≤◌, Bool, not, List, [], ◌∷◌, ◌++◌, length, nat_eq, bytes_eq, is_some, Some, None, Option}
 use Rattle.std.specs.Map.{update}
 use Rattle.catalog.specs.Catalog.{CatalogColumn}
 use Rattle.catalog.specs.Shape.{Name}
 use Rattle.keys.specs.Senses.{Pair, same_pair}
 use Rattle.life.specs.Steps.{Book}
-use Rattle.room.specs.Sizes.{Sizes, bytes}
+use Rattle.room.specs.Sizes.{Sizes, bytes, first_full}
 use Rattle.book.specs.Descriptions.{Description, Member, described_by, names_of}
 
 pub record Held : Type 0 where
@@ -80,10 +80,16 @@ size_of_description n = record no_sizes { descriptors = 1; text = length n }
 abbrev pub size_of_array : Sizes
 size_of_array = record no_sizes { arrays = 1 }
 
+abbrev pub size_of_relation : (table : Name) → Sizes
+size_of_relation table = record no_sizes { text = length table; relations = 1 }
+
+abbrev pub size_of_column_name : Name → Sizes
+size_of_column_name n = record no_sizes { text = length n; columns = 1 }
+
 -- and a column of a relation whose table is held, or not yet
 abbrev pub size_of_column : Option Name → CatalogColumn → Sizes
-size_of_column (Some table) k = record no_sizes { columns = 1; text = length k.column }
-size_of_column None k = record no_sizes { columns = 1; text = length k.column + length k.table; relations = 1 }
+size_of_column (Some table) k = size_of_column_name k.column
+size_of_column None k = sum_of (size_of_column_name k.column) (size_of_relation k.table)
 
 abbrev pub with_members : Held → List Member → Held
 with_members h ms = record h { members = h.members ++ ms; taken = sum_of h.taken (size_of_members ms) }
@@ -106,12 +112,26 @@ with_array h e a = record h {
   taken = sum_of h.taken size_of_array;
 }
 
+abbrev pub with_relation : Held → ℕ → (table : Name) → Held
+with_relation h r table = record h {
+  relations = update nat_eq h.relations r (Some table);
+  taken = sum_of h.taken (size_of_relation table);
+}
+
+abbrev pub with_column_name : Held → Pair → (table column : Name) → Held
+with_column_name h p table column = record h {
+  columns = update same_pair h.columns p (Some (record { table = table; column = column }));
+  taken = sum_of h.taken (size_of_column_name column);
+}
+
 -- a relation whose table is held keeps it
+abbrev pub column_of_relation : Held → Option Name → Pair → CatalogColumn → Held
+column_of_relation h (Some table) p k = with_column_name h p table k.column
+column_of_relation h None p k = with_column_name (with_relation h p.0 k.table) p k.table k.column
+
 abbrev pub with_column : Held → Pair → CatalogColumn → Held
-with_column h p k =
-    let table : Name = unwrap_or (h.relations p.0) k.table in
-    record h {
-      columns = update same_pair h.columns p (Some (record { table = table; column = k.column }));
-      relations = update nat_eq h.relations p.0 (Some table);
-      taken = sum_of h.taken (size_of_column (h.relations p.0) k);
-    }
+with_column h p k = column_of_relation h (h.relations p.0) p k
+
+-- there is room for so much more
+abbrev pub has_room : Held → Sizes → Bool
+has_room h more = not (is_some (first_full h.capacity h.taken more))

@@ -1,19 +1,10 @@
 -- What is told of a settled type.
 -- Assumes nothing.
-use Rattle.std.specs.Prelude.{ℕ, List, [], ◌∷◌, slice_get, Some, None, Option}
-use Rattle.std.specs.List.{zip}
-use Rattle.std.specs.Option.{option_map}
+use Rattle.std.specs.Prelude.{ℕ, List, [], ◌∷◌}
 use Rattle.catalog.specs.Shape.{Name, Head, simple, pseudo, domain, array, range, enumeration, composite}
-use Rattle.type_info.specs.Meaning.{entry_of}
-use Rattle.type_info.specs.Table.{Entry}
-use Rattle.type_info.specs.Table as table
-use Rattle.unfolding.specs.Unfolding.{Tree, built, node, Trees, none, more}
-use Rattle.book.specs.declared.settled.Settled.{Settled}
-use Rattle.book.specs.declared.settled.Settled.TheVariants.{BuiltIn, Described}
+use Rattle.unfolding.specs.Unfolding.{Tree, Trees, none, more}
 use Rattle.book.specs.declared.settled.TypeKind.{TypeKind}
 use Rattle.book.specs.declared.settled.TypeKind.TheVariants as k
-use Rattle.book.specs.Descriptions.{trees_of}
-use Rattle.book.specs.Held.{Held}
 
 pub record TypeTold : Type 0 where
   pub oid : ℕ

@@ -1,8 +1,12 @@
 // A book: what a kiosk has learnt of a catalog, in tables over memory that the host lends.
 #![tactic(auto)]
 
+mod adding;
 pub mod descriptor;
+mod finding;
+pub mod holding;
 pub mod making;
 pub mod memory;
+pub mod settled;
 pub mod sizes;
 pub mod tables;

@@ -38,6 +38,16 @@ fn lacks_room(capacity: usize, taken: usize, added: usize) -> bool
 }
 
 impl Sizes {
+    pub const NONE: Sizes = Sizes {
+        descriptors: 0,
+        parts: 0,
+        names: 0,
+        arrays: 0,
+        text: 0,
+        columns: 0,
+        relations: 0,
+    };
+
     // As much as the host lends, and no more than a book can use.
     pub fn capacities(self) -> Sizes
         ensures { sizes_told result ≡ capacities (sizes_told self) }

@@ -14,7 +14,7 @@ use Rattle.type_info.specs.declared.oid.Oid.{Oid}
 use Rattle.row_table.specs.Additions.{with_column, with_name, with_row}
 use Rattle.row_table.specs.Held.{Consistent, Held}
 use Rattle.row_table.proofs.Fresh.{Beside, NewName, NewRow}
-use Rattle.row_table.proofs.Updates.{here, stays, stays_some, was}
+use Rattle.indexes.proofs.Updates.{here, stays, stays_some, was}
 
 module _ (h : Held) (c : Consistent h) (oid : Oid) where
   pub consistent_with_row : (r : CatalogRow) → NewRow h oid r → 1 ≤ oid.0 → Sized 128 r.pretty → Consistent (with_row h oid r)

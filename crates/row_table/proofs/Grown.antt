@@ -16,7 +16,7 @@ use Rattle.row_table.specs.Held.{Consistent, Held, catalog_of}
 use Rattle.row_table.specs.Laws.{column-some}
 use Rattle.row_table.proofs.Fresh.{Beside, new_column, new_name, new_row}
 use Rattle.row_table.proofs.Consistent.{no_column}
-use Rattle.row_table.proofs.Updates.{stays}
+use Rattle.indexes.proofs.Updates.{stays}
 
 nothing_new : (h : Held) → Grows (catalog_of h) (catalog_of h)
 nothing_new h = record { rows_stay = λ o r e. e; named_stay = λ s o e. e; columns_stay = λ o a k e. e }

@@ -1,4 +1,3 @@
-pub mod Updates
 pub mod Fresh
 pub mod Consistent
 pub mod Put

@@ -26,7 +26,7 @@ use Rattle.row_table.specs.Table.{held_of}
 use Rattle.row_table.specs.Tables.{Roomy, holding}
 use Rattle.row_table.proofs.Consistent.{consistent_with_column, consistent_with_name, consistent_with_row, no_column}
 use Rattle.row_table.proofs.Fresh.{Beside, new_column, new_name, new_row}
-use Rattle.row_table.proofs.Updates.{put_again, told_after}
+use Rattle.indexes.proofs.Updates.{put_again, told_after}
 
 -- tables that hold h, and no more than they may
 pub record Holds (h : Held) (rows : List (Entry Oid Row)) (names : Names Oid) (parts : ℕ) (relations : List (Entry Oid (Text 128))) (columns : List (Entry Attribute (Text 63))) (allowance : ℕ) : Type 0 where

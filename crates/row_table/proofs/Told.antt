@@ -20,7 +20,7 @@ use Rattle.row_table.specs.Additions.{Judged, answer, column_answer, column_besi
 use Rattle.row_table.specs.Held.{Consistent, Held, catalog_of, column_from}
 use Rattle.row_table.specs.Outcomes.{ColumnContradicted, ColumnOutcome, ColumnHeld, NameContradicted, NameHeld, NameOutcome, Outcome, RowContradicted, RowHeld, RowOutcome, column_added, column_needs, name_added, name_needs, row_added, row_needs}
 use Rattle.row_table.proofs.Consistent.{no_column}
-use Rattle.row_table.proofs.Updates.{put_again}
+use Rattle.indexes.proofs.Updates.{put_again}
 
 none-some : {A : Type 0} (x : Option A) (a : A) → x ≡ None → x ≡ Some a → ⊥
 none-some x a e d = let z : ◌≡◌ {A = ℕ} 0 1 = cc in omega arith

@@ -1,0 +1,21 @@
+// What a book has already.
+ghost use Rattle.std.specs.Prelude.{◌≡◌};
+ghost use Rattle.book.specs.Book.{held_of};
+ghost use Rattle.book.specs.Adding.{component_for};
+
+use crate::descriptor::Component;
+use crate::tables::Book;
+use type_info::builtin::by_oid;
+use type_info::oid::Oid;
+
+impl<'a> Book<'a> {
+    // What a descriptor tells of a type that it is made of, if the type is known.
+    pub(crate) fn component_for(&self, oid: Oid) -> Option<Component>
+        ensures { result ≡ component_for (held_of self.now).descriptions oid }
+    {
+        if by_oid(oid).is_some() {
+            return Some(Component::BuiltIn(oid));
+        }
+        Some(Component::Slot(self.index.find(oid)?))
+    }
+}
