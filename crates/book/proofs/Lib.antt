@@ -3,3 +3,4 @@ pub mod Put
 pub mod Appended
 pub mod Room
 pub mod Columns
+pub mod Trees

@@ -1,17 +1,27 @@
 -- What is told of a settled type.
 -- Assumes nothing.
-use Rattle.std.specs.Prelude.{ℕ, List, [], ◌∷◌}
+use Rattle.std.specs.Prelude.{ℕ, if◌then◌else◌, List, [], ◌∷◌, slice_get, Some, None, Option, option_and_then}
+use Rattle.std.specs.List.{zip}
+use Rattle.std.specs.Option.{option_map}
 use Rattle.catalog.specs.Shape.{Name, Head, simple, pseudo, domain, array, range, enumeration, composite}
-use Rattle.unfolding.specs.Unfolding.{Tree, Trees, none, more}
+use Rattle.type_info.specs.Meaning.{entry_of}
+use Rattle.type_info.specs.Table.{Entry, by_oid, component}
+use Rattle.type_info.specs.Table as table
+use Rattle.unfolding.specs.Unfolding.{Tree, built, node, Trees, none, more, built_in}
+use Rattle.book.specs.declared.settled.Settled.{Settled}
+use Rattle.book.specs.declared.settled.Settled.TheVariants.{BuiltIn, Described}
 use Rattle.book.specs.declared.settled.TypeKind.{TypeKind}
 use Rattle.book.specs.declared.settled.TypeKind.TheVariants as k
+use Rattle.book.specs.Descriptions.{trees_of}
+use Rattle.book.specs.Held.{Held}
 
 pub record TypeTold : Type 0 where
   pub oid : ℕ
   pub name : Name
   pub kind : TypeKind
   pub labels : List Name
-  pub attributes : List Name
+  -- each with its type
+  pub attributes : List (Name × Tree)
   -- the base of a domain, the element of an array, the subtype of a range, the types of a composite's attributes
   pub components : List Tree
 
@@ -45,3 +55,47 @@ attributes_of_head array = []
 attributes_of_head range = []
 attributes_of_head (enumeration labels) = []
 attributes_of_head (composite names) = names
+
+abbrev pub node_told : ℕ → Name → Head → List Tree → TypeTold
+node_told o name head ts = record {
+  oid = o;
+  name = name;
+  kind = kind_of_head head;
+  labels = labels_of_head head;
+  attributes = zip (attributes_of_head head) ts;
+  components = ts;
+}
+
+abbrev pub kind_of_entry : table.Kind → TypeKind
+kind_of_entry table.simple = k.Simple
+kind_of_entry table.pseudo = k.Pseudo
+kind_of_entry (table.array o) = k.Array
+kind_of_entry (table.range o) = k.Range
+
+-- what a built-in type is built of, which is built in
+abbrev pub built_of : Option ℕ → List Tree
+built_of None = []
+built_of (Some o) = if built_in o then built o ∷ [] else []
+
+abbrev pub entry_told : Entry → TypeTold
+entry_told e = record {
+  oid = e.oid;
+  name = e.name;
+  kind = kind_of_entry e.kind;
+  labels = [];
+  attributes = [];
+  components = built_of (component e.kind);
+}
+
+abbrev pub tree_told : Tree → Option TypeTold
+tree_told (built o) = option_map entry_told (by_oid o)
+tree_told (node o name head ts) = Some (node_told o name head (tree_list ts))
+
+-- which tree a settled type stands for, and what is told of it: of one whose slot the book does not have, nothing
+abbrev pub settled_tree : Held → Settled → Option Tree
+settled_tree h (BuiltIn b) = Some (built (entry_of b).oid)
+settled_tree h (Described slot) = slice_get (trees_of h.descriptions) slot.0
+
+abbrev pub settled_told : Held → Settled → Option TypeTold
+settled_told h (BuiltIn b) = Some (entry_told (entry_of b))
+settled_told h (Described slot) = option_and_then tree_told (slice_get (trees_of h.descriptions) slot.0)
