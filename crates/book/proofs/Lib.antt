@@ -4,3 +4,5 @@ pub mod Appended
 pub mod Room
 pub mod Columns
 pub mod Trees
+pub mod Shapes
+pub mod Members

@@ -1,21 +1,22 @@
 -- What an addition to a book is, and whether it can be made.
 -- Assumes nothing.
-use Rattle.std.specs.Prelude.{ℕ, Bool, not, ◌&&◌, if◌then◌else◌, List, is_some, Some, None, Option}
+use Rattle.std.specs.Prelude.{ℕ, ◌+◌, Bool, false, not, ◌&&◌, if◌then◌else◌, List, [], length, map, is_some, Some, None, Option}
+use Rattle.std.specs.List.{list_all}
 use Rattle.std.specs.Option.{option_map}
 use Rattle.unfolding.specs.Unfolding.{built_in}
-use Rattle.type_info.specs.declared.oid.Oid.{Oid}
-use Rattle.catalog.specs.Catalog.{CatalogColumn}
-use Rattle.catalog.specs.Shape.{Name}
+use Rattle.catalog.specs.Catalog.{CatalogAttribute, CatalogColumn, CatalogRow}
+use Rattle.catalog.specs.Shape.{Name, Head, simple, pseudo, domain, array, range, enumeration, composite, Shape, shape}
 use Rattle.keys.specs.Senses.{Pair}
 use Rattle.book.specs.declared.descriptor.Component.{Component}
 use Rattle.book.specs.declared.descriptor.Component.TheVariants.{BuiltIn, Slot}
 use Rattle.book.specs.declared.descriptor.Kind.{Kind}
-use Rattle.book.specs.Descriptions.{Description, components_of, head_of, slot_of}
-use Rattle.book.specs.Held.{Held, has_room, size_of_array, size_of_column, size_of_name, with_column_name, with_relation}
+use Rattle.room.specs.Sizes.{Sizes, bytes, part_names}
+use Rattle.book.specs.Descriptions.{Description, Member, components_of, head_of, slot_of}
+use Rattle.book.specs.Held.{Held, has_room, no_sizes, size_of_array, size_of_column, size_of_name, with_column_name, with_description, with_members, with_relation}
 
 -- what a descriptor tells of a type: a built-in one by itself, a described one by its slot
-abbrev pub component_for : List Description → Oid → Option Component
-component_for ds o = if built_in o.0 then Some (BuiltIn o) else option_map (λ i. Slot i) (slot_of ds o.0)
+abbrev pub component_for : List Description → ℕ → Option Component
+component_for ds o = if built_in o then Some (BuiltIn (record { 0 = o })) else option_map (λ i. Slot i) (slot_of ds o)
 
 -- the description of an OID by this name and kind, whose parts are there
 abbrev pub description_with : Held → ℕ → Name → Kind → Description
@@ -30,6 +31,47 @@ with_related h None r table = with_relation h r table
 abbrev pub with_own_column : Held → Option Name → Pair → (column : Name) → Held
 with_own_column h None p n = h
 with_own_column h (Some table) p n = with_column_name h p table n
+
+abbrev pub is_known : List Description → ℕ → Bool
+is_known ds o = is_some (component_for ds o)
+
+abbrev pub label_members : List Name → List Member
+label_members labels = map (λ n. record { called = n; typed = None }) labels
+
+abbrev pub attribute_members : List Description → List CatalogAttribute → List Member
+attribute_members ds attributes = map (λ (a : CatalogAttribute). record { called = a.called; typed = component_for ds a.typed }) attributes
+
+-- those of a row of this kind
+abbrev pub row_members : List Description → CatalogRow → Head → List Member
+row_members ds r simple = []
+row_members ds r pseudo = []
+row_members ds r domain = []
+row_members ds r array = []
+row_members ds r range = []
+row_members ds r (enumeration labels) = label_members r.labels
+row_members ds r (composite names) = attribute_members ds r.attributes
+
+-- an OID as its row's shape describes it
+abbrev pub described : List Description → ℕ → Shape → Description
+described ds o s = record { oid = o; name = s.name; head = s.head; components = map (component_for ds) s.links }
+
+abbrev pub size_of_shape : Shape → Sizes
+size_of_shape s = record no_sizes { descriptors = 1; parts = length (part_names s.head); text = length s.name + bytes (part_names s.head) }
+
+-- an OID can be described so: it is not known, what it is made of is, and there is room
+abbrev pub settles_so : Held → ℕ → Option Shape → Bool
+settles_so h o None = false
+settles_so h o (Some s) = not (is_known h.descriptions o) && (list_all (is_known h.descriptions) s.links && has_room h (size_of_shape s))
+
+abbrev pub with_shape : Held → ℕ → CatalogRow → Option Shape → Held
+with_shape h o r None = h
+with_shape h o r (Some s) = with_description (with_members h (row_members h.descriptions r s.head)) (described h.descriptions o s)
+
+abbrev pub settles : Held → ℕ → CatalogRow → Bool
+settles h o r = settles_so h o (shape r)
+
+abbrev pub with_row : Held → ℕ → CatalogRow → Held
+with_row h o r = with_shape h o r (shape r)
 
 -- a name, an array link and a column can be added: they are not held already, and there is room
 abbrev pub adds_name : Held → Name → Bool

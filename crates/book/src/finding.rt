@@ -1,7 +1,9 @@
 // What a book has already.
 ghost use Rattle.std.specs.Prelude.{◌≡◌};
+ghost use Rattle.std.specs.List.{list_all};
 ghost use Rattle.book.specs.Book.{held_of};
-ghost use Rattle.book.specs.Adding.{component_for};
+ghost use Rattle.book.specs.Adding.{component_for, is_known};
+ghost use Rattle.type_info.specs.declared.oid.Oid.{Oid};
 
 use crate::descriptor::Component;
 use crate::tables::Book;
@@ -11,11 +13,17 @@ use type_info::oid::Oid;
 impl<'a> Book<'a> {
     // What a descriptor tells of a type that it is made of, if the type is known.
     pub(crate) fn component_for(&self, oid: Oid) -> Option<Component>
-        ensures { result ≡ component_for (held_of self.now).descriptions oid }
+        ensures { result ≡ component_for (held_of self.now).descriptions oid.0 }
     {
         if by_oid(oid).is_some() {
             return Some(Component::BuiltIn(oid));
         }
         Some(Component::Slot(self.index.find(oid)?))
+    }
+
+    pub(crate) fn knows_all(&self, oids: &[Oid]) -> bool
+        ensures { result ≡ list_all (λ (oid : Oid). is_known (held_of self.now).descriptions oid.0) oids.now }
+    {
+        oids.iter().all(|oid| self.component_for(*oid).is_some())
     }
 }

@@ -8,5 +8,6 @@ pub mod holding;
 pub mod making;
 pub mod memory;
 pub mod settled;
+pub mod settling;
 pub mod sizes;
 pub mod tables;
