@@ -6,3 +6,5 @@ pub mod Columns
 pub mod Trees
 pub mod Shapes
 pub mod Members
+pub mod Laying
+pub mod Described

@@ -6,7 +6,7 @@ use Rattle.catalog.specs.declared.codes.TypCategory.TheVariants as c
 use Rattle.catalog.specs.Catalog.{CatalogRow}
 use Rattle.catalog.specs.Codes.{typtype_byte, typcategory_byte}
 use Rattle.catalog.specs.Shape.{Head, simple, pseudo, domain, array, range, enumeration, composite, Shape, codes_listed, linked, names_of, oids_of, shape, shaped}
-use Rattle.life.proofs.Lists.{not_some_none}
+use Rattle.book.specs.Adding.{PartsOf}
 
 abbrev pub HeadOf : CatalogRow → Head → List ℕ → Type 0
 HeadOf r simple links = links ≡ []
@@ -42,3 +42,15 @@ shape_is r =
 
 pub shape_of_row : (r : CatalogRow) (s : Shape) → shape r ≡ Some s → (s.name ≡ r.pretty) × HeadOf r s.head s.links
 shape_of_row r s e = subst (ShapeOf r) e (shape_is r)
+
+parts_of : (r : CatalogRow) (h : Head) (links : List ℕ) → HeadOf r h links → PartsOf r h
+parts_of r simple links e = tt
+parts_of r pseudo links e = tt
+parts_of r domain links e = tt
+parts_of r array links e = tt
+parts_of r range links e = tt
+parts_of r (enumeration labels) links e = e.0
+parts_of r (composite names) links e = e.0
+
+pub parts_of_row : (r : CatalogRow) (s : Shape) → shape r ≡ Some s → PartsOf r s.head
+parts_of_row r s e = parts_of r s.head s.links (shape_of_row r s e).1

@@ -1,11 +1,11 @@
 -- What an addition to a book is, and whether it can be made.
 -- Assumes nothing.
-use Rattle.std.specs.Prelude.{ℕ, ◌+◌, Bool, false, not, ◌&&◌, if◌then◌else◌, List, [], length, map, is_some, Some, None, Option}
+use Rattle.std.specs.Prelude.{◌≡◌, ℕ, ◌+◌, Bool, true, false, not, ◌&&◌, if◌then◌else◌, List, [], length, map, is_some, Some, None, Option}
 use Rattle.std.specs.List.{list_all}
 use Rattle.std.specs.Option.{option_map}
 use Rattle.unfolding.specs.Unfolding.{built_in}
 use Rattle.catalog.specs.Catalog.{CatalogAttribute, CatalogColumn, CatalogRow}
-use Rattle.catalog.specs.Shape.{Name, Head, simple, pseudo, domain, array, range, enumeration, composite, Shape, shape}
+use Rattle.catalog.specs.Shape.{Name, Head, simple, pseudo, domain, array, range, enumeration, composite, Shape, names_of, shape}
 use Rattle.keys.specs.Senses.{Pair}
 use Rattle.book.specs.declared.descriptor.Component.{Component}
 use Rattle.book.specs.declared.descriptor.Component.TheVariants.{BuiltIn, Slot}
@@ -13,6 +13,7 @@ use Rattle.book.specs.declared.descriptor.Kind.{Kind}
 use Rattle.room.specs.Sizes.{Sizes, bytes, part_names}
 use Rattle.book.specs.Descriptions.{Description, Member, components_of, head_of, slot_of}
 use Rattle.book.specs.Held.{Held, has_room, no_sizes, size_of_array, size_of_column, size_of_name, with_column_name, with_description, with_members, with_relation}
+use Rattle.book.specs.Tables.{run_inside}
 
 -- what a descriptor tells of a type: a built-in one by itself, a described one by its slot
 abbrev pub component_for : List Description → ℕ → Option Component
@@ -55,8 +56,28 @@ row_members ds r (composite names) = attribute_members ds r.attributes
 abbrev pub described : List Description → ℕ → Shape → Description
 described ds o s = record { oid = o; name = s.name; head = s.head; components = map (component_for ds) s.links }
 
+-- g is h with the members of a row of this shape laid, and of this kind the row's description
+pub record KindLaid (h : Held) (r : CatalogRow) (s : Shape) (kind : Kind) (g : Held) : Type 0 where
+  pub held : g ≡ with_members h (row_members h.descriptions r s.head)
+  pub head : head_of g.members kind ≡ s.head
+  pub components : components_of g.members kind ≡ map (component_for h.descriptions) s.links
+  pub inside : run_inside (length g.members) kind ≡ true
+
+-- the parts of this kind are the row's
+abbrev pub PartsOf : CatalogRow → Head → Type 0
+PartsOf r simple = Unit {0}
+PartsOf r pseudo = Unit {0}
+PartsOf r domain = Unit {0}
+PartsOf r array = Unit {0}
+PartsOf r range = Unit {0}
+PartsOf r (enumeration labels) = labels ≡ r.labels
+PartsOf r (composite names) = names ≡ names_of r.attributes
+
+abbrev pub size_of_parts : Head → Sizes
+size_of_parts head = record no_sizes { parts = length (part_names head); text = bytes (part_names head) }
+
 abbrev pub size_of_shape : Shape → Sizes
-size_of_shape s = record no_sizes { descriptors = 1; parts = length (part_names s.head); text = length s.name + bytes (part_names s.head) }
+size_of_shape s = record (size_of_parts s.head) { descriptors = 1; text = length s.name + bytes (part_names s.head) }
 
 -- an OID can be described so: it is not known, what it is made of is, and there is room
 abbrev pub settles_so : Held → ℕ → Option Shape → Bool

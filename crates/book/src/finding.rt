@@ -3,10 +3,12 @@ ghost use Rattle.std.specs.Prelude.{◌≡◌};
 ghost use Rattle.std.specs.List.{list_all};
 ghost use Rattle.book.specs.Book.{held_of};
 ghost use Rattle.book.specs.Adding.{component_for, is_known};
+ghost use Rattle.catalog.specs.Meaning.{links_told};
 ghost use Rattle.type_info.specs.declared.oid.Oid.{Oid};
 
 use crate::descriptor::Component;
 use crate::tables::Book;
+use catalog::few::Few;
 use type_info::builtin::by_oid;
 use type_info::oid::Oid;
 
@@ -21,9 +23,15 @@ impl<'a> Book<'a> {
         Some(Component::Slot(self.index.find(oid)?))
     }
 
-    pub(crate) fn knows_all(&self, oids: &[Oid]) -> bool
+    fn knows_each(&self, oids: &[Oid]) -> bool
         ensures { result ≡ list_all (λ (oid : Oid). is_known (held_of self.now).descriptions oid.0) oids.now }
     {
         oids.iter().all(|oid| self.component_for(*oid).is_some())
+    }
+
+    pub(crate) fn knows_all(&self, links: &Few<Oid, 64>) -> bool
+        ensures { result ≡ list_all (is_known (held_of self.now).descriptions) (links_told links.now) }
+    {
+        self.knows_each(links.as_slice())
     }
 }
