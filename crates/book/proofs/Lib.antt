@@ -8,3 +8,5 @@ pub mod Shapes
 pub mod Members
 pub mod Laying
 pub mod Described
+pub mod Places
+pub mod Told

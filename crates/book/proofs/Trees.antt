@@ -128,6 +128,9 @@ founded_at k (x ∷ ds) (suc i) d f e =
     let next : suc k + i ≡ k + suc i = omega arith in
     subst (λ (j : ℕ). Founded j d) next (founded_at (suc k) ds i d (and_parts _ (well_founded (suc k) ds) f).1 e)
 
+pub founded_slot : (ds : List Description) (i : ℕ) (d : Description) → well_founded 0 ds ≡ true → slice_get ds i ≡ Some d → Founded i d
+founded_slot ds i d f e = subst (λ (j : ℕ). Founded j d) (zero-add i) (founded_at 0 ds i d f e)
+
 pub well_founded-append : (k : ℕ) (ds es : List Description) → well_founded k (ds ++ es) ≡ (well_founded k ds && well_founded (k + length ds) es)
 well_founded-append k [] es = let here : k ≡ k + 0 = omega arith in ap (λ j. well_founded j es) here
 well_founded-append k (d ∷ ds) es =
@@ -161,11 +164,8 @@ module _ (slot : ℕ) (ts us : List Tree) (agree : (i : ℕ) → i < slot → sl
 pub tree_founded :
     (ds : List Description) (i : ℕ) (d : Description) → well_founded 0 ds ≡ true → slice_get ds i ≡ Some d → slice_get (trees_of ds) i ≡ Some (tree_of (trees_of ds) d)
 tree_founded ds i d f e =
-    tree_at ds i d e ∙ ap (λ t. Some t) (tree_same i (trees_of (take i ds)) (trees_of ds) agree d founded.earlier)
+    tree_at ds i d e ∙ ap (λ t. Some t) (tree_same i (trees_of (take i ds)) (trees_of ds) agree d (founded_slot ds i d f e).earlier)
   where
-    founded : Founded i d
-    founded = subst (λ (j : ℕ). Founded j d) (zero-add i) (founded_at 0 ds i d f e)
-
     long : length (trees_of (take i ds)) ≡ i
     long = length-trees_of (take i ds) ∙ length-take-le i ds (omega (arith, slice_get_within ds i d e))
 

@@ -1,19 +1,28 @@
 -- What is told of a settled type.
 -- Assumes nothing.
-use Rattle.std.specs.Prelude.{ℕ, if◌then◌else◌, List, [], ◌∷◌, slice_get, Some, None, Option, option_and_then}
+use Rattle.std.specs.Prelude.{ℕ, if◌then◌else◌, List, [], ◌∷◌, map, slice_get, length, Some, None, Option, option_and_then}
+use Rattle.std.specs.Bool.{then_some}
 use Rattle.std.specs.List.{zip}
 use Rattle.std.specs.Option.{option_map}
+use Rattle.catalog.specs.Catalog.{CatalogColumn}
 use Rattle.catalog.specs.Shape.{Name, Head, simple, pseudo, domain, array, range, enumeration, composite}
+use Rattle.keys.specs.declared.span.Span.{Span}
+use Rattle.keys.specs.Spans.{span_bytes}
 use Rattle.type_info.specs.Meaning.{entry_of}
 use Rattle.type_info.specs.Table.{Entry, by_oid, component}
 use Rattle.type_info.specs.Table as table
 use Rattle.unfolding.specs.Unfolding.{Tree, built, node, Trees, none, more, built_in}
+use Rattle.book.specs.declared.descriptor.Component.{Component}
+use Rattle.book.specs.declared.descriptor.Component.TheVariants as c
+use Rattle.book.specs.declared.descriptor.Descriptor.{Descriptor}
+use Rattle.book.specs.declared.reading.ColumnText.{ColumnText}
 use Rattle.book.specs.declared.settled.Settled.{Settled}
 use Rattle.book.specs.declared.settled.Settled.TheVariants.{BuiltIn, Described}
 use Rattle.book.specs.declared.settled.TypeKind.{TypeKind}
 use Rattle.book.specs.declared.settled.TypeKind.TheVariants as k
-use Rattle.book.specs.Descriptions.{trees_of}
+use Rattle.book.specs.Descriptions.{component_tree, components_of, head_of, trees_of}
 use Rattle.book.specs.Held.{Held}
+use Rattle.book.specs.Tables.{span_inside}
 
 pub record TypeTold : Type 0 where
   pub oid : ℕ
@@ -72,7 +81,7 @@ kind_of_entry table.pseudo = k.Pseudo
 kind_of_entry (table.array o) = k.Array
 kind_of_entry (table.range o) = k.Range
 
--- what a built-in type is built of, which is built in
+-- what a built-in type is built of, where that is built in too, as it is for each entry of the table
 abbrev pub built_of : Option ℕ → List Tree
 built_of None = []
 built_of (Some o) = if built_in o then built o ∷ [] else []
@@ -99,3 +108,33 @@ settled_tree h (Described slot) = slice_get (trees_of h.descriptions) slot.0
 abbrev pub settled_told : Held → Settled → Option TypeTold
 settled_told h (BuiltIn b) = Some (entry_told (entry_of b))
 settled_told h (Described slot) = option_and_then tree_told (slice_get (trees_of h.descriptions) slot.0)
+
+abbrev pub column_text_told : ColumnText → CatalogColumn
+column_text_told k = record { table = k.table.now; column = k.name.now }
+
+-- the bytes under a span that lies in the text
+abbrev pub bytes_at : List ℕ → Span → Option (List ℕ)
+bytes_at text s = then_some (span_inside (length text) s) (span_bytes text s)
+
+-- what a descriptor tells
+abbrev pub descriptor_told : Held → List ℕ → Descriptor → TypeTold
+descriptor_told h text d =
+    node_told d.oid.0 (span_bytes text d.name) (head_of h.members d.kind) (map (component_tree (trees_of h.descriptions)) (components_of h.members d.kind))
+
+-- the element of an array
+abbrev pub element_if : TypeKind → List Tree → Option Tree
+element_if k.Simple ts = None
+element_if k.Pseudo ts = None
+element_if k.Domain ts = None
+element_if k.Array ts = slice_get ts 0
+element_if k.Range ts = None
+element_if k.Enum ts = None
+element_if k.Composite ts = None
+
+abbrev pub element_of : TypeTold → Option Tree
+element_of t = element_if t.kind t.components
+
+-- the tree of a component as a settled type: an OID that is not built in is none
+abbrev pub settled_component : Held → Component → Option (Option Tree)
+settled_component h (c.BuiltIn o) = if built_in o.0 then Some (Some (built o.0)) else None
+settled_component h (c.Slot i) = Some (slice_get (trees_of h.descriptions) i)

@@ -2,11 +2,13 @@
 #![tactic(auto)]
 
 mod adding;
+pub mod answering;
 pub mod descriptor;
 mod finding;
 pub mod holding;
 pub mod making;
 pub mod memory;
+pub mod reading;
 pub mod settled;
 pub mod settling;
 pub mod sizes;
