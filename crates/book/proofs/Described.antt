@@ -1,6 +1,6 @@
 -- Where an OID can be described, its members fit, and then its descriptor, whose components are told already.
 -- Assumes nothing.
-use Rattle.std.proofs.Common.{◌≡◌, ℕ, ◌+◌, ◌<◌, Bool, true, false, not, ◌&&◌, if◌then◌else◌, List, [], ◌∷◌, length, map, is_some, Some, None, Option, sym, refl, ap, ◌∙◌, subst, ⊎_elim, arith}
+use Rattle.std.proofs.Common.{◌≡◌, ℕ, ◌+◌, ◌<◌, Bool, true, false, not, ◌&&◌, ◌||◌, if◌then◌else◌, List, [], ◌∷◌, length, map, slice_get, option_and_then, is_some, Some, None, Option, sym, refl, ap, ◌∙◌, subst, ⊎_elim, arith}
 use Rattle.std.specs.List.{list_all}
 use Rattle.std.specs.Option.{option_map}
 use Rattle.std.proofs.lemmas.Bool.{and_parts, cases_Bool, le-leb, lt-ltb, not-true}
@@ -9,17 +9,18 @@ use Rattle.std.proofs.lemmas.Option.{slice_get_within}
 use Rattle.catalog.specs.Catalog.{CatalogAttribute, CatalogRow}
 use Rattle.catalog.specs.Shape.{Head, simple, pseudo, domain, array, range, enumeration, composite, Name, Shape}
 use Rattle.unfolding.specs.Unfolding.{built_in}
+use Rattle.life.specs.Walk.{answered}
 use Rattle.life.proofs.Lists.{is_none_if, not_both}
 use Rattle.room.specs.Sizes.{bytes, first_full, part_names}
 use Rattle.book.specs.declared.descriptor.Component.{Component}
 use Rattle.book.specs.declared.descriptor.Component.TheVariants.{BuiltIn, Slot}
 use Rattle.book.specs.Adding.{PartsOf, component_for, is_known, row_members, settles_so, size_of_shape}
-use Rattle.book.specs.Descriptions.{Description, Member, is_earlier, names_of, slot_of}
+use Rattle.book.specs.Descriptions.{Description, Member, described_by, is_earlier, names_of, slot_of, trees_of}
 use Rattle.book.specs.Held.{Fits, Held, has_room, size_of_description, size_of_members, sum_of, with_members}
 use Rattle.book.proofs.Laying.{attribute_names, label_names}
 use Rattle.book.proofs.Put.{unmapped}
 use Rattle.book.proofs.Room.{fits_then}
-use Rattle.book.proofs.Trees.{slot_stands}
+use Rattle.book.proofs.Trees.{length-trees_of, slice_get_some, slot_stands}
 
 module _ (ds : List Description) where
   -- what is told of a known type is built in or stands before any later slot
@@ -67,6 +68,22 @@ module _ (ds : List Description) where
 
   many_so : (r : CatalogRow) (h : Head) → PartsOf r h → length (row_members ds r h) ≡ length (part_names h)
   many_so r h e = sym (length-map (row_members ds r h) (λ (m : Member). m.called)) ∙ ap length (named_so r h e)
+
+  -- a known type is built in or described
+  pub known_answered : (o : ℕ) → is_known ds o ≡ answered (described_by ds) o
+  known_answered o =
+      ⊎_elim
+      (λ b. ap is_some (of_built o b) ∙ sym (ap (λ t. t || is_some (described_by ds o)) b))
+      (λ b. ap is_some (of_slot o b) ∙ by_slot (slot_of ds o) refl ∙ sym (ap (λ t. t || is_some (described_by ds o)) b))
+      (cases_Bool (built_in o))
+    where
+      by_slot : (s : Option ℕ) → slot_of ds o ≡ s → is_some (option_map (λ i. Slot i) s) ≡ is_some (option_and_then (slice_get (trees_of ds)) s)
+      by_slot None e = refl
+      by_slot (Some i) e =
+          let d = slot_stands ds o i e in
+          let inside : i < length (trees_of ds) = omega (arith, slice_get_within ds i d.0 d.1, length-trees_of ds) in
+          let t = slice_get_some (trees_of ds) i inside in
+          sym (ap is_some t.1)
 
 module _ (h : Held) (o : ℕ) (r : CatalogRow) (s : Shape) (e : settles_so h o (Some s) ≡ true) where
   parted : (not (is_known h.descriptions o) ≡ true) × ((list_all (is_known h.descriptions) s.links && has_room h (size_of_shape s)) ≡ true)

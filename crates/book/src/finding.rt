@@ -2,6 +2,8 @@
 ghost use Rattle.std.specs.Prelude.{◌≡◌};
 ghost use Rattle.std.specs.List.{list_all};
 ghost use Rattle.book.specs.Book.{held_of};
+ghost use Rattle.life.specs.Walk.{answered};
+ghost use Rattle.book.specs.Held.{book_held};
 ghost use Rattle.book.specs.Adding.{component_for, is_known};
 ghost use Rattle.catalog.specs.Meaning.{links_told};
 ghost use Rattle.type_info.specs.declared.oid.Oid.{Oid};
@@ -21,6 +23,13 @@ impl<'a> Book<'a> {
             return Some(Component::BuiltIn(oid));
         }
         Some(Component::Slot(self.index.find(oid)?))
+    }
+
+    // Whether the type is built in or described.
+    pub fn knows(&self, oid: Oid) -> bool
+        ensures { result ≡ answered (book_held (held_of self.now)).descriptors oid.0 }
+    {
+        self.component_for(oid).is_some()
     }
 
     fn knows_each(&self, oids: &[Oid]) -> bool

@@ -4,7 +4,7 @@
 mod adding;
 pub mod answering;
 pub mod descriptor;
-mod finding;
+pub mod finding;
 pub mod holding;
 pub mod making;
 pub mod memory;
