@@ -1,6 +1,6 @@
 -- A column goes in behind the table of its relation.
 -- Assumes nothing.
-use Rattle.std.proofs.Common.{◌≡◌, ℕ, true, nat_eq, Some, None, Option, sym, refl, ap, ◌∙◌, subst, arith}
+use Rattle.std.proofs.Common.{◌≡◌, nat_eq, Some, None, Option, sym, refl, ap, ◌∙◌, subst, arith}
 use Rattle.std.proofs.lemmas.Bool.{cond-true}
 use Rattle.std.proofs.lemmas.Bool.Decides.{Decides-eqb}
 use Rattle.catalog.specs.Catalog.{CatalogColumn}
@@ -8,7 +8,7 @@ use Rattle.catalog.specs.Shape.{Name}
 use Rattle.keys.specs.Senses.{Pair}
 use Rattle.life.proofs.Lists.{not_some_none}
 use Rattle.book.specs.Adding.{with_own_column, with_related}
-use Rattle.book.specs.Held.{Fits, Held, column_of_relation, size_of_column, size_of_column_name, size_of_relation, sum_of, with_column_name, with_relation}
+use Rattle.book.specs.Held.{Fits, Held, column_of_relation, size_of_column, size_of_column_name, size_of_relation, sum_of, with_relation}
 
 module _ (h : Held) (p : Pair) (k : CatalogColumn) where
   pub column_behind : (x : Option Name) → h.relations p.0 ≡ x → (g : Held) → g ≡ with_related h x p.0 k.table → with_own_column g (g.relations p.0) p k.column ≡ column_of_relation h x p k

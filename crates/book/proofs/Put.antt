@@ -1,12 +1,11 @@
 -- What the tables hold once one thing more was put into them, and that they are sound again.
 -- Assumes nothing.
-use Rattle.std.proofs.Common.{◌≡◌, ℕ, ◌+◌, ◌≤◌, Bool, true, false, cond, List, [], ◌∷◌, ◌++◌, length, map, min, nat_eq, bytes_eq, Some, None, Option, sym, refl, ap, ◌∙◌, subst, arith, length-append}
+use Rattle.std.proofs.Common.{◌≡◌, ℕ, ◌+◌, ◌≤◌, Bool, true, false, cond, List, [], ◌∷◌, ◌++◌, length, min, nat_eq, bytes_eq, Some, None, Option, sym, refl, ap, ◌∙◌, subst, arith, length-append}
 use Rattle.std.proofs.lemmas.Bool.{le-leb}
 use Rattle.std.proofs.lemmas.List.{append-nil, length-map, map-append}
 use Rattle.std.specs.List.{list_all}
 use Rattle.std.specs.Map.{update}
 use Rattle.std.specs.Option.{option_map}
-use Rattle.catalog.specs.Catalog.{CatalogColumn}
 use Rattle.catalog.specs.Meaning.{oid_told}
 use Rattle.indexes.specs.Known.{Gained, GainedName, HasEmpty, HasRoom, Interned, Names, by_attribute, by_oid, known}
 use Rattle.indexes.proofs.Updates.{told_after}

@@ -1,6 +1,6 @@
 -- Where no table lacks room, all of them fit with what is added.
 -- Assumes nothing.
-use Rattle.std.proofs.Common.{◌≡◌, ℕ, Bool, false, is_some, Some, None, Option, sym, ap, ◌∙◌, arith}
+use Rattle.std.proofs.Common.{◌≡◌, Bool, false, is_some, Some, None, Option, sym, ap, ◌∙◌, arith}
 use Rattle.std.specs.Option.{option_map}
 use Rattle.room.specs.Sizes.{Sizes, first_full}
 use Rattle.room.proofs.Fitting.{first_full_law}

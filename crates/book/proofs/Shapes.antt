@@ -5,7 +5,7 @@ use Rattle.catalog.specs.declared.codes.TypType.TheVariants as t
 use Rattle.catalog.specs.declared.codes.TypCategory.TheVariants as c
 use Rattle.catalog.specs.Catalog.{CatalogRow}
 use Rattle.catalog.specs.Codes.{typtype_byte, typcategory_byte}
-use Rattle.catalog.specs.Shape.{Head, simple, pseudo, domain, array, range, enumeration, composite, Shape, codes_listed, linked, names_of, oids_of, shape, shaped}
+use Rattle.catalog.specs.Shape.{Head, simple, pseudo, domain, array, range, enumeration, composite, Shape, codes_listed, linked, names_of, oids_of, shape}
 use Rattle.book.specs.Adding.{PartsOf}
 
 abbrev pub HeadOf : CatalogRow → Head → List ℕ → Type 0

@@ -1,6 +1,6 @@
 -- What a book's descriptors tell, and the tree that each stands for.
 -- Assumes nothing.
-use Rattle.std.specs.Prelude.{◌≡◌, ℕ, suc, ◌<◌, Bool, true, false, not, ◌&&◌, List, [], ◌∷◌, ◌++◌, map, take, drop, slice_get, nat_eq, nat_lt, Some, None, Option, unwrap_or, option_and_then}
+use Rattle.std.specs.Prelude.{ℕ, suc, Bool, true, false, not, ◌&&◌, List, [], ◌∷◌, ◌++◌, map, take, drop, slice_get, nat_eq, nat_lt, Some, None, Option, unwrap_or, option_and_then}
 use Rattle.std.specs.List.{list_all}
 use Rattle.catalog.specs.Shape.{Name, Head, simple, pseudo, domain, array, range, enumeration, composite}
 use Rattle.keys.specs.Spans.{span_bytes}

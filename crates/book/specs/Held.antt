@@ -1,6 +1,6 @@
 -- What a book holds: its descriptors, names, array links and columns, and how much room is taken and may be.
 -- Assumes nothing.
-use Rattle.std.specs.Prelude.{◌≡◌, ℕ, ◌+◌, ◌≤◌, Bool, not, List, [], ◌∷◌, ◌++◌, length, nat_eq, bytes_eq, is_some, Some, None, Option}
+use Rattle.std.specs.Prelude.{ℕ, ◌+◌, ◌≤◌, Bool, not, List, [], ◌∷◌, ◌++◌, length, nat_eq, bytes_eq, is_some, Some, None, Option}
 use Rattle.std.specs.Map.{update}
 use Rattle.catalog.specs.Catalog.{CatalogColumn}
 use Rattle.catalog.specs.Shape.{Name}

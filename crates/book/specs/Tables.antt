@@ -20,7 +20,7 @@ use Rattle.book.specs.declared.descriptor.Descriptor.{Descriptor}
 use Rattle.book.specs.declared.descriptor.Kind.{Kind}
 use Rattle.book.specs.declared.descriptor.Kind.TheVariants.{Simple, Pseudo, Domain, Array, Range, Enum, Composite}
 use Rattle.book.specs.declared.descriptor.Part.{Part}
-use Rattle.book.specs.Descriptions.{Description, descriptions_of, members_of, slot_of, well_founded}
+use Rattle.book.specs.Descriptions.{descriptions_of, members_of, slot_of, well_founded}
 use Rattle.book.specs.Held.{Fits, Held}
 
 -- within so many bytes of text

@@ -1,4 +1,4 @@
-use Rattle.std.proofs.Common.{◌≡◌, ◌+◌, ◌∙◌, ap, arith, length, min}
+use Rattle.std.proofs.Common.{◌≡◌, ◌∙◌, ap, arith, length, min}
 use Rattle.std.specs.Option.{option_map}
 use Rattle.catalog.specs.Meaning.{oid_told}
 use Rattle.keys.specs.Spans.{span_bytes}

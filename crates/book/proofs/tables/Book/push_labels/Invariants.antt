@@ -1,5 +1,4 @@
 use Rattle.std.proofs.Common.{◌≡◌, map, take}
-use Rattle.catalog.specs.Few.{standing}
 use Rattle.catalog.specs.Meaning.{text_of}
 use Rattle.book.specs.Adding.{label_members}
 use Rattle.book.specs.Book.{held_of}
