@@ -1,15 +1,12 @@
 -- One description more behind the others.
 -- Assumes nothing.
-use Rattle.std.proofs.Common.{◌≡◌, ℕ, suc, ◌+◌, Bool, true, false, not, ◌&&◌, List, [], ◌∷◌, ◌++◌, length, nat_eq, Some, None, sym, refl, ap, ◌∙◌, subst, ⊎_elim, arith}
+use Rattle.std.proofs.Common.{◌≡◌, ℕ, suc, ◌+◌, Bool, true, false, List, [], ◌∷◌, ◌++◌, length, nat_eq, Some, None, sym, refl, ap, ◌∙◌, ⊎_elim, arith}
 use Rattle.std.proofs.lemmas.Bool.{cases_Bool, cond-false, cond-true}
 use Rattle.std.proofs.lemmas.Bool.Decides.{Decides-eqb}
-use Rattle.std.specs.List.{list_all}
 use Rattle.std.specs.Map.{update}
-use Rattle.unfolding.specs.Unfolding.{built_in}
 use Rattle.life.specs.Lists.{first_place}
 use Rattle.life.proofs.Lists.{chosen_false, chosen_true, not_both, not_some_none, split_option}
-use Rattle.book.specs.Descriptions.{Description, is_earlier, slot_of, well_founded}
-use Rattle.book.proofs.Growth.{and_so, both}
+use Rattle.book.specs.Descriptions.{Description, slot_of}
 
 module _ {A : Type 0} (test : A → Bool) where
   place_here : (i : ℕ) (x : A) (xs : List A) → test x ≡ true → first_place test i (x ∷ xs) ≡ Some i
@@ -65,11 +62,3 @@ slot_of_more ds d o new =
         (λ n. place_last test 0 ds d n ∙ place_later test (0 + length ds) d [] (unlike f) ∙ sym n)
         (λ s. place_stays test 0 s.0 ds d s.1 ∙ sym s.1)
         (split_option (slot_of ds o))
-
-pub founded_behind : (n : ℕ) (ds : List Description) (d : Description) → well_founded n ds ≡ true → well_founded (n + length ds) (d ∷ []) ≡ true →
-    well_founded n (ds ++ d ∷ []) ≡ true
-founded_behind n [] d e one = subst (λ k. well_founded k (d ∷ []) ≡ true) (omega arith) one
-founded_behind n (x ∷ ds) d e one =
-    let b = both (not (built_in x.oid) && list_all (is_earlier n) x.components) (well_founded (suc n) ds) e in
-    and_so (not (built_in x.oid) && list_all (is_earlier n) x.components) (well_founded (suc n) (ds ++ d ∷ [])) b.0
-    (founded_behind (suc n) ds d b.1 (subst (λ k. well_founded k (d ∷ []) ≡ true) (omega arith) one))

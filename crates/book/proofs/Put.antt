@@ -30,7 +30,8 @@ use Rattle.book.specs.Book.{held_of}
 use Rattle.book.specs.Descriptions.{Description, Member, components_of, description_of, descriptions_of, head_of, member_of, members_of, slot_of, well_founded}
 use Rattle.book.specs.Held.{Fits, Held, size_of_column_name, size_of_description, size_of_members, size_of_name, size_of_relation, sum_of, with_column_name, with_description, with_members, with_name, with_relation}
 use Rattle.book.specs.Tables.{Inside, Sound, column_inside, column_read, descriptor_inside, holding, lent_to, part_inside, relation_inside, run_inside, span_inside, taken_by}
-use Rattle.book.proofs.Appended.{founded_behind, slot_of_more}
+use Rattle.book.proofs.Appended.{slot_of_more}
+use Rattle.book.proofs.Trees.{well_founded-append}
 use Rattle.book.proofs.Growth.{all_kept, all_one_more, and_so, column_further, column_kept, descriptions_kept, descriptor_further, le_longer, members_kept, part_further, relation_further, relation_kept, span_kept}
 
 -- sound tables that hold h
@@ -268,7 +269,11 @@ module _ (b : Book) where
           ∙ sym (slot_of_more (held_of b).descriptions description o new)
           ∙ ap (λ ds. slot_of ds o) (sym with_one);
       counted = omega (arith, gained.count, one_descriptor_more, b.sound.counted);
-      founded = subst (λ ds. well_founded 0 ds ≡ true) (sym with_one) (founded_behind 0 (held_of b).descriptions description b.sound.founded (subst (λ n. well_founded n (description ∷ []) ≡ true) (omega arith) founded));
+      founded =
+          ap (well_founded 0) with_one
+          ∙ well_founded-append 0 (held_of b).descriptions (description ∷ [])
+          ∙ and_so (well_founded 0 (held_of b).descriptions) (well_founded (0 + length (held_of b).descriptions) (description ∷ [])) b.sound.founded
+          (subst (λ n. well_founded n (description ∷ []) ≡ true) (omega arith) founded);
       fits = subst (λ (x : Held). Fits x.taken x.capacity) (sym descriptor_held) fits;
     }
 
