@@ -10,3 +10,5 @@ pub mod Laying
 pub mod Described
 pub mod Places
 pub mod Told
+pub mod Entries
+pub mod Stands

@@ -63,7 +63,7 @@ columns_so : (c : Catalog) (t : Tables) (asked : List Pair) → columns_added c 
 columns_so c t asked = refl
 
 -- the book of tables with more behind them, and their sizes
-abbrev book_with : Book → Tables → Book
+abbrev pub book_with : Book → Tables → Book
 book_with b more = record {
   descriptors = λ o. option_or (b.descriptors o) (look_up nat_eq more.descriptors o);
   names = λ n. option_or (b.names n) (look_up bytes_eq more.names n);
@@ -71,7 +71,7 @@ book_with b more = record {
   columns = λ r a. option_or (b.columns r a) (look_up same_pair more.columns (r, a));
 }
 
-contents_with : (t more : Tables) → contents (extended t more) ≡ book_with (contents t) more
+pub contents_with : (t more : Tables) → contents (extended t more) ≡ book_with (contents t) more
 contents_with t more = λ i. record {
   descriptors = λ o. look_append nat_eq Decides-eqb t.descriptors more.descriptors o i;
   names = λ n. look_append bytes_eq bytes_eq-Decides t.names more.names n i;
@@ -79,7 +79,7 @@ contents_with t more = λ i. record {
   columns = λ r a. look_append same_pair same-pair t.columns more.columns (r, a) i;
 }
 
-abbrev sums : Sizes → Sizes → Sizes
+abbrev pub sums : Sizes → Sizes → Sizes
 sums s more = record {
   descriptors = s.descriptors + more.descriptors;
   parts = s.parts + more.parts;
@@ -90,7 +90,7 @@ sums s more = record {
   relations = s.relations + more.relations;
 }
 
-sizes_with : (t more : Tables) → sizes_of (extended t more) ≡ sums (sizes_of t) (sizes_of more)
+pub sizes_with : (t more : Tables) → sizes_of (extended t more) ≡ sums (sizes_of t) (sizes_of more)
 sizes_with t more = λ i. record {
   descriptors = sum_law t more 0 (omega arith) i;
   parts = sum_law t more 1 (omega arith) i;
