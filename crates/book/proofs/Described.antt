@@ -24,10 +24,10 @@ use Rattle.book.proofs.Trees.{length-trees_of, slice_get_some, slot_stands}
 
 module _ (ds : List Description) where
   -- what is told of a known type is built in or stands before any later slot
-  of_built : (o : ℕ) → built_in o ≡ true → component_for ds o ≡ Some (BuiltIn (record { 0 = o }))
+  pub of_built : (o : ℕ) → built_in o ≡ true → component_for ds o ≡ Some (BuiltIn (record { 0 = o }))
   of_built o e = ap (λ t. if t then Some (BuiltIn (record { 0 = o })) else option_map (λ i. Slot i) (slot_of ds o)) e
 
-  of_slot : (o : ℕ) → built_in o ≡ false → component_for ds o ≡ option_map (λ i. Slot i) (slot_of ds o)
+  pub of_slot : (o : ℕ) → built_in o ≡ false → component_for ds o ≡ option_map (λ i. Slot i) (slot_of ds o)
   of_slot o e = ap (λ t. if t then Some (BuiltIn (record { 0 = o })) else option_map (λ i. Slot i) (slot_of ds o)) e
 
   slot_earlier : (o : ℕ) (s : Option ℕ) → slot_of ds o ≡ s → is_some (option_map (λ i. Slot i) s) ≡ true → is_earlier (length ds) (option_map (λ i. Slot i) s) ≡ true
@@ -57,7 +57,7 @@ module _ (ds : List Description) where
       λ i. earlier o p.0 i && all_earlier os p.1 i
 
   -- the members of a row have the names of its parts
-  named_so : (r : CatalogRow) (h : Head) → PartsOf r h → names_of (row_members ds r h) ≡ part_names h
+  pub named_so : (r : CatalogRow) (h : Head) → PartsOf r h → names_of (row_members ds r h) ≡ part_names h
   named_so r simple e = refl
   named_so r pseudo e = refl
   named_so r domain e = refl
@@ -66,7 +66,7 @@ module _ (ds : List Description) where
   named_so r (enumeration labels) e = label_names r.labels ∙ sym e
   named_so r (composite names) e = attribute_names ds r.attributes ∙ sym e
 
-  many_so : (r : CatalogRow) (h : Head) → PartsOf r h → length (row_members ds r h) ≡ length (part_names h)
+  pub many_so : (r : CatalogRow) (h : Head) → PartsOf r h → length (row_members ds r h) ≡ length (part_names h)
   many_so r h e = sym (length-map (row_members ds r h) (λ (m : Member). m.called)) ∙ ap length (named_so r h e)
 
   -- a known type is built in or described

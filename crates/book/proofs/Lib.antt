@@ -12,3 +12,6 @@ pub mod Places
 pub mod Told
 pub mod Entries
 pub mod Stands
+pub mod Gathered
+pub mod Rows
+pub mod OneSettled

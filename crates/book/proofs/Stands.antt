@@ -49,19 +49,19 @@ module _ (h : Held) (t : Tables) (s : Stands h t) where
   same_descriptors : look_up nat_eq (t.descriptors ++ []) ≡ described_by h.descriptions
   same_descriptors = ap (look_up nat_eq) (append-nil t.descriptors) ∙ ap (λ (b : Book). b.descriptors) s.book
 
-  same_names : look_up bytes_eq (t.names ++ []) ≡ h.names
+  pub same_names : look_up bytes_eq (t.names ++ []) ≡ h.names
   same_names = ap (look_up bytes_eq) (append-nil t.names) ∙ ap (λ (b : Book). b.names) s.book
 
-  same_arrays : look_up nat_eq (t.arrays ++ []) ≡ h.arrays
+  pub same_arrays : look_up nat_eq (t.arrays ++ []) ≡ h.arrays
   same_arrays = ap (look_up nat_eq) (append-nil t.arrays) ∙ ap (λ (b : Book). b.arrays) s.book
 
   column_at : look_up same_pair t.columns ≡ h.columns
   column_at = λ i p. ap (λ (b : Book). b.columns p.0 p.1) s.book i
 
-  same_columns : look_up same_pair (t.columns ++ []) ≡ h.columns
+  pub same_columns : look_up same_pair (t.columns ++ []) ≡ h.columns
   same_columns = ap (look_up same_pair) (append-nil t.columns) ∙ column_at
 
-  same_relations : look_up nat_eq (t.relations ++ []) ≡ h.relations
+  pub same_relations : look_up nat_eq (t.relations ++ []) ≡ h.relations
   same_relations = ap (look_up nat_eq) (append-nil t.relations) ∙ s.relations
 
   pub sizes_added : (more : Tables) (size : Sizes) → sizes_of more ≡ size → sizes_of (extended t more) ≡ sum_of h.taken size

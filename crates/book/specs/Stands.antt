@@ -1,13 +1,15 @@
 -- Tables that a book stands for, and those of one thing more.
 -- Assumes nothing.
-use Rattle.std.specs.Prelude.{◌≡◌, ℕ, [], ◌∷◌, nat_eq, Some, None, Option}
-use Rattle.catalog.specs.Catalog.{CatalogColumn}
-use Rattle.catalog.specs.Shape.{Name}
+use Rattle.std.specs.Prelude.{◌≡◌, ℕ, [], ◌∷◌, nat_eq, option_and_then, true, Some, None, Option}
+use Rattle.catalog.specs.Catalog.{CatalogColumn, CatalogRow}
+use Rattle.catalog.specs.Shape.{Name, Shape, shape}
 use Rattle.keys.specs.Senses.{Pair}
 use Rattle.unfolding.specs.Unfolding.{Tree}
+use Rattle.life.specs.Settle.{made_of}
 use Rattle.room.specs.Sizes.{sizes_of}
 use Rattle.room.specs.Tables.{Tables, contents, look_up, no_tables}
-use Rattle.book.specs.Held.{Held, book_held}
+use Rattle.book.specs.Adding.{size_of_shape}
+use Rattle.book.specs.Held.{Held, book_held, has_room}
 
 -- their book, the tables of their relations and their sizes are what is held
 pub record Stands (h : Held) (t : Tables) : Type 0 where
@@ -32,3 +34,18 @@ OneTable h r table = (held : Name) → h.relations r ≡ Some held → held ≡ 
 
 abbrev pub one_descriptor : ℕ → Tree → Tables
 one_descriptor o u = record no_tables { descriptors = (o, u) ∷ [] }
+
+-- the tree that a row tells of an OID, if the row is well-formed and all that it is made of is known
+abbrev pub row_tree : Held → ℕ → CatalogRow → Option Tree
+row_tree h o r = option_and_then (made_of (book_held h).descriptors o) (shape r)
+
+abbrev pub one_tree : ℕ → Option Tree → Tables
+one_tree o None = no_tables
+one_tree o (Some u) = one_descriptor o u
+
+abbrev pub one_row : Held → ℕ → CatalogRow → Tables
+one_row h o r = one_tree o (row_tree h o r)
+
+-- there is room for the descriptor of a well-formed row
+abbrev pub RoomForRow : Held → CatalogRow → Type 0
+RoomForRow h r = (s : Shape) → shape r ≡ Some s → has_room h (size_of_shape s) ≡ true

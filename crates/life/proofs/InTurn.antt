@@ -126,7 +126,7 @@ some_map : {A B : Type 0} (f : A → B) (x : Option A) → is_some (option_map f
 some_map f None = refl
 some_map f (Some a) = refl
 
-some_gather : (d : Descriptors) (os : List ℕ) → is_some (gather d os) ≡ list_all (answered d) os
+pub some_gather : (d : Descriptors) (os : List ℕ) → is_some (gather d os) ≡ list_all (answered d) os
 some_gather d [] = refl
 some_gather d (o ∷ os) = some_joined (found d o) (gather d os) ∙ (λ i. some_if (built_in o) (built o) (d o) i && some_gather d os i)
 
