@@ -62,5 +62,8 @@ module _ (h : Held) (o : ℕ) (r : CatalogRow) (c : Catalog) (there : c.rows o �
         (ap (settles_so h o) y ∙ (λ i. not (fresh i) && (n i && has_room h (size_of_shape s)))))
         (cases_Bool (list_all (is_known h.descriptions) s.links))
 
-  pub settles_one : (v : Bool) → v ≡ settles h o r → Follows v
-  settles_one v same = subst Follows (sym same) (⊎_elim described_stays (λ e. by_shape e (shape r) refl) (cases_Bool (is_some (b o))))
+  follows : Follows (settles h o r)
+  follows = ⊎_elim described_stays (λ e. by_shape e (shape r) refl) (cases_Bool (is_some (b o)))
+
+  pub settles_one : (v : Bool) → v ≡ settles h o r → (g : Held) → g ≡ (if v then with_row h o r else h) → described_by g.descriptions ≡ settle_one c b o
+  settles_one v told g held = ap (λ (x : Held). described_by x.descriptions) held ∙ subst Follows (sym told) follows

@@ -1,6 +1,6 @@
 -- With the descriptor of a row more a book stands for this too.
 -- Assumes nothing.
-use Rattle.std.proofs.Common.{◌≡◌, ℕ, ◌+◌, Bool, true, false, not, if◌then◌else◌, List, [], ◌∷◌, ◌++◌, length, slice_get, nat_eq, is_some, option_and_then, Some, None, Option, sym, refl, ap, ◌∙◌, subst, arith}
+use Rattle.std.proofs.Common.{◌≡◌, ℕ, ◌+◌, true, false, not, List, [], ◌∷◌, ◌++◌, length, slice_get, nat_eq, is_some, option_and_then, Some, None, Option, sym, refl, ap, ◌∙◌, subst, arith}
 use Rattle.std.specs.List.{list_all}
 use Rattle.std.specs.Option.{option_map}
 use Rattle.std.proofs.lemmas.Bool.{and_parts, not-true}
@@ -72,11 +72,8 @@ module _ (h : Held) (o : ℕ) (r : CatalogRow) (s : Shape) (of_row : shape r ≡
   pub row_stands : RowStands h o s (with_row h o r)
   row_stands = subst (λ x. RowStands h o s (with_shape h o r x)) (sym of_row) shape_stands
 
--- where a row was settled its tree is made, and the book stands for it
+-- where a row is settled its tree is made, and the book stands for it
 module _ (h : Held) (o : ℕ) (r : CatalogRow) where
-  abbrev Settled : Bool → Type 0
-  Settled v = (t : Tables) → Stands h t → Stands (if v then with_row h o r else h) (if v then extended t (one_row h o r) else t)
-
   tree_told : (s : Shape) → shape r ≡ Some s → row_tree h o r ≡ made_of (book_held h).descriptors o s
   tree_told s e = ap (option_and_then (made_of (book_held h).descriptors o)) e
 
@@ -86,14 +83,17 @@ module _ (h : Held) (o : ℕ) (r : CatalogRow) where
       let p = and_parts (not (is_known h.descriptions o)) _ done in
       (s, e, not-true (is_known h.descriptions o) p.0, (and_parts (list_all (is_known h.descriptions) s.links) _ p.1).0)
 
-  settled_row : settles h o r ≡ true → (s : Shape) × (shape r ≡ Some s) × RowStands h o s (with_row h o r)
-  settled_row done = let x = shape_settles (shape r) refl done in (x.0, x.1, row_stands h o r x.0 x.1 x.2 x.3)
+  module _ (done : settles h o r ≡ true) where
+    settled_row : (s : Shape) × (shape r ≡ Some s) × RowStands h o s (with_row h o r)
+    settled_row = let x = shape_settles (shape r) refl done in (x.0, x.1, row_stands h o r x.0 x.1 x.2 x.3)
 
-  pub settled_tree : settles h o r ≡ true → is_some (row_tree h o r) ≡ true
-  settled_tree done = let x = settled_row done in ap is_some (tree_told x.0 x.1 ∙ x.2.made)
+    tree_made : row_tree h o r ≡ Some settled_row.2.tree
+    tree_made = tree_told settled_row.0 settled_row.1 ∙ settled_row.2.made
 
-  pub settled_stands : (v : Bool) → v ≡ settles h o r → Settled v
-  settled_stands true e t st =
-      let x = settled_row (sym e) in
-      subst (λ y. Stands (with_row h o r) (extended t (one_tree o y))) (sym (tree_told x.0 x.1 ∙ x.2.made)) (x.2.stands t st)
-  settled_stands false e t st = st
+    pub settled_tree : is_some (row_tree h o r) ≡ true
+    settled_tree = ap is_some tree_made
+
+    pub settled_stands : (g : Held) → g ≡ with_row h o r → (t : Tables) → Stands h t → Stands g (extended t (one_row h o r))
+    settled_stands g held t s =
+        subst (λ (x : Held). Stands x (extended t (one_row h o r))) (sym held)
+        (subst (λ u. Stands (with_row h o r) (extended t (one_tree o u))) (sym tree_made) (settled_row.2.stands t s))

@@ -4,7 +4,9 @@ ghost use Rattle.book.specs.Adding.{adds_array, adds_column, adds_name};
 ghost use Rattle.book.specs.Book.{held_of};
 ghost use Rattle.book.specs.Held.{size_of_column, with_array, with_column, with_name};
 ghost use Rattle.book.specs.Sizes.{sizes_told};
+ghost use Rattle.book.specs.Stands.{OneTable, Stands, one_array, one_column, one_name};
 ghost use Rattle.keys.specs.Senses.{pair_of};
+ghost use Rattle.room.specs.Tables.{Tables, extended};
 
 use crate::sizes::Sizes;
 use crate::tables::Book;
@@ -16,6 +18,8 @@ impl<'a> Book<'a> {
     pub fn hold_name(&mut self, name: &[u8], oid: Oid) -> bool
         ensures told { result ≡ adds_name (held_of self.old) name.now }
         ensures held { held_of self.new ≡ if result then with_name (held_of self.old) name.now oid.0 else held_of self.old }
+        ensures stands { (t : Tables) → Stands (held_of self.old) t →
+            Stands (held_of self.new) (if result then extended t (one_name name.now oid.0) else t) }
     {
         let added = Sizes {
             names: 1,
@@ -33,6 +37,8 @@ impl<'a> Book<'a> {
     pub fn hold_array(&mut self, element: Oid, array: Oid) -> bool
         ensures told { result ≡ adds_array (held_of self.old) element.0 }
         ensures held { held_of self.new ≡ if result then with_array (held_of self.old) element.0 array.0 else held_of self.old }
+        ensures stands { (t : Tables) → Stands (held_of self.old) t →
+            Stands (held_of self.new) (if result then extended t (one_array element.0 array.0) else t) }
     {
         let added = Sizes {
             arrays: 1,
@@ -67,6 +73,8 @@ impl<'a> Book<'a> {
     pub fn hold_column(&mut self, at: Attribute, table: &[u8], name: &[u8]) -> bool
         ensures told { result ≡ adds_column (held_of self.old) (pair_of at) (record { table = table.now; column = name.now }) }
         ensures held { held_of self.new ≡ if result then with_column (held_of self.old) (pair_of at) (record { table = table.now; column = name.now }) else held_of self.old }
+        ensures stands { (t : Tables) → Stands (held_of self.old) t → OneTable (held_of self.old) at.relation.0 table.now →
+            Stands (held_of self.new) (if result then extended t (one_column ((held_of self.old).relations at.relation.0) (pair_of at) (record { table = table.now; column = name.now })) else t) }
     {
         let added = self.size_of_column(at.relation, table, name);
         if self.columns.find(at).is_some() || self.room(added).is_some() {

@@ -4,7 +4,9 @@ ghost use Rattle.std.specs.Option.{option_map};
 ghost use Rattle.book.specs.Book.{held_of, slots_of};
 ghost use Rattle.book.specs.Held.{nothing_held};
 ghost use Rattle.book.specs.Sizes.{position_of, sizes_told};
+ghost use Rattle.book.specs.Stands.{Stands};
 ghost use Rattle.room.specs.Sizes.{capacities, first_full};
+ghost use Rattle.room.specs.Tables.{no_tables};
 
 use crate::memory::Memory;
 use crate::sizes::{BookTable, Sizes};
@@ -16,7 +18,8 @@ use slots::stack::Stack;
 impl<'a> Book<'a> {
     // A book that holds nothing, over memory of any size, whatever that held before.
     pub fn new(memory: Memory<'a>) -> Book<'a>
-        ensures { held_of result ≡ nothing_held (capacities (slots_of memory.entry)) }
+        ensures held { held_of result ≡ nothing_held (capacities (slots_of memory.entry)) }
+        ensures stands { Stands (held_of result) no_tables }
     {
         let Memory {
             descriptors,

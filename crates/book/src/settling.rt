@@ -1,14 +1,19 @@
 // How the row of an OID becomes its descriptor.
-ghost use Rattle.std.specs.Prelude.{◌≡◌, ◌≤◌, if◌then◌else◌, true, length, map, slice_get, option_and_then, MatchOption, Some};
+ghost use Rattle.std.specs.Prelude.{◌≡◌, ◌≤◌, if◌then◌else◌, true, false, is_some, length, map, slice_get, option_and_then, MatchOption, Some};
 ghost use Rattle.std.specs.List.{list_all};
 ghost use Rattle.book.specs.Adding.{KindLaid, PartsOf, attribute_members, component_for, is_known, label_members, row_members, settles, settles_so, size_of_parts, size_of_shape, with_row};
 ghost use Rattle.book.specs.Book.{held_of};
-ghost use Rattle.book.specs.Held.{Fits, size_of_members, sum_of, with_members};
+ghost use Rattle.book.specs.Held.{Fits, book_held, size_of_members, sum_of, with_members};
 ghost use Rattle.book.specs.Sizes.{sizes_told};
+ghost use Rattle.book.specs.Stands.{RoomForRow, Stands, one_row, row_tree};
+ghost use Rattle.catalog.specs.Catalog.{Catalog};
 ghost use Rattle.catalog.specs.Few.{standing};
 ghost use Rattle.catalog.specs.Meaning.{attribute_meaning, head_meaning, links_told, row_meaning, shape_meaning, text_of};
 ghost use Rattle.catalog.specs.Shape.{names_of, shape as shape_of};
+ghost use Rattle.life.specs.Settle.{settle_one};
 ghost use Rattle.room.specs.Sizes.{bytes};
+ghost use Rattle.room.specs.Tables.{Tables, extended};
+ghost use Rattle.unfolding.specs.Unfolding.{built_in};
 
 use crate::descriptor::{Component, Kind, Run};
 use crate::sizes::Sizes;
@@ -151,6 +156,11 @@ impl<'a> Book<'a> {
     pub fn settle(&mut self, oid: Oid, row: &Row) -> bool
         ensures told { result ≡ settles (held_of self.old) oid.0 (row_meaning row.now) }
         ensures held { held_of self.new ≡ if result then with_row (held_of self.old) oid.0 (row_meaning row.now) else held_of self.old }
+        ensures tree { result ≡ true → is_some (row_tree (held_of self.old) oid.0 (row_meaning row.now)) ≡ true }
+        ensures stands { (t : Tables) → Stands (held_of self.old) t →
+            Stands (held_of self.new) (if result then extended t (one_row (held_of self.old) oid.0 (row_meaning row.now)) else t) }
+        ensures settles_one { (c : Catalog) → c.rows oid.0 ≡ Some (row_meaning row.now) → built_in oid.0 ≡ false → RoomForRow (held_of self.old) (row_meaning row.now) →
+            (book_held (held_of self.new)).descriptors ≡ settle_one c (book_held (held_of self.old)).descriptors oid.0 }
     {
         let Ok(shape) = row.shape() else {
             return false;

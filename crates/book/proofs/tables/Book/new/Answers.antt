@@ -1,16 +1,20 @@
-use Rattle.std.proofs.Common.{◌≡◌, ◌∙◌, ap, arith, length, min}
+use Rattle.std.proofs.Common.{◌≡◌, ◌∙◌, ap, arith, length, min, subst, sym}
 use Rattle.std.specs.Option.{option_map}
 use Rattle.catalog.specs.Meaning.{oid_told}
 use Rattle.keys.specs.Spans.{span_bytes}
 use Rattle.room.specs.Sizes.{capacities}
+use Rattle.room.specs.Tables.{no_tables}
 use Rattle.slots.specs.Stack.{slots_lent}
 use Rattle.slots.specs.Text.{lent}
 use Rattle.book.specs.Descriptions.{descriptions_of, members_of}
+use Rattle.book.specs.Held.{Held}
+use Rattle.book.specs.Stands.{Stands}
 use Rattle.book.specs.Tables.{column_read}
+use Rattle.book.proofs.Stands.{stands_new}
 use Rattle.book.proofs.tables.Book.new.Goals as goal
 
-pub returns : goal.returns
-returns c =
+pub returns-clause-held : goal.returns-clause-held
+returns-clause-held c =
     let m = c.args.memory in
     let descriptors : slots_lent c.new.result ≡ length m.descriptors.now = ap slots_lent c.new.ensures ∙ omega arith in
     let parts : slots_lent c.new-3.result ≡ length m.parts.now = ap slots_lent c.new-3.ensures ∙ omega arith in
@@ -43,3 +47,6 @@ returns c =
         relations = c.new-7.ensures.size i;
       });
     }
+
+pub returns-clause-stands : goal.returns-clause-stands
+returns-clause-stands c = subst (λ (g : Held). Stands g no_tables) (sym (returns-clause-held c)) (stands_new _)
