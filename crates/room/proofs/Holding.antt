@@ -20,12 +20,12 @@ use Rattle.room.proofs.Additions.{map_mem, mem_map}
 use Rattle.room.proofs.LookUp.{look_append, look_mem, mem_key, key_held, mem_look, values_mem, look_extended, new_mem, new_once}
 
 -- a relation is held exactly where one of its columns is
-abbrev Related : List (ℕ × Name) → List (Pair × CatalogColumn) → Type 0
+abbrev pub Related : List (ℕ × Name) → List (Pair × CatalogColumn) → Type 0
 Related relations columns =
     (r : ℕ) (n : Name) →
     (look_up nat_eq relations r ≡ Some n) ↔ ((a : ℤ) × (k : CatalogColumn) × (look_up same_pair columns (r, a) ≡ Some k) × (k.table ≡ n))
 
-without : {A : Type 0} (P : List A → Type 0) (xs : List A) → P xs → P (xs ++ [])
+pub without : {A : Type 0} (P : List A → Type 0) (xs : List A) → P xs → P (xs ++ [])
 without P xs p = subst P (sym (append-nil xs)) p
 
 pub types_held : (c : Catalog) (t : Tables) (call : Call) (reads apart : List ℕ) → Held t → Held (with_types c t call reads apart)

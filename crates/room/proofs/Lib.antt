@@ -6,3 +6,5 @@ pub mod Outcome
 pub mod Room
 pub mod Order
 pub mod Asked
+pub mod Extended
+pub mod Permuted

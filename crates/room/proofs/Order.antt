@@ -118,7 +118,7 @@ related_to t u ht hu e r n there =
     let w = (ht.related r n).0 there in
     (hu.related r n).1 (w.0, w.1, sym (ap (λ (b : Book). b.columns r w.0) e) ∙ w.2, w.3)
 
-same_related : (t u : Tables) → Held t → Held u → contents t ≡ contents u → look_up nat_eq t.relations ≡ look_up nat_eq u.relations
+pub same_related : (t u : Tables) → Held t → Held u → contents t ≡ contents u → look_up nat_eq t.relations ≡ look_up nat_eq u.relations
 same_related t u ht hu e = λ i r. same_option (look_up nat_eq t.relations r) (look_up nat_eq u.relations r) (related_to t u ht hu e r) (related_to u t hu ht (sym e) r) i
 
 abbrev choose : Bool → Bool → Tables → Tables → Tables → Tables
