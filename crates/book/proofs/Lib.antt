@@ -15,3 +15,5 @@ pub mod Stands
 pub mod Gathered
 pub mod Rows
 pub mod OneSettled
+pub mod Alike
+pub mod Once
