@@ -1,0 +1,2 @@
+pub mod Grown
+pub mod Put

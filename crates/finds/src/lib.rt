@@ -1,0 +1,7 @@
+// The working memory of a step: the OIDs that stand, the rows that were read of them, and which of them can be settled.
+#![tactic(auto)]
+
+pub mod making;
+pub mod memory;
+pub mod reading;
+pub mod tables;
