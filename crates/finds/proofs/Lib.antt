@@ -1,2 +1,5 @@
 pub mod Grown
+pub mod Few
 pub mod Put
+pub mod Passing
+pub mod Ended

@@ -1,7 +1,10 @@
 -- What the tables hold once one thing more was put into them.
 -- Assumes nothing.
-use Rattle.std.proofs.Common.{◌≡◌, ℕ, ◌+◌, ◌<◌, false, not, List, [], ◌∷◌, ◌++◌, length, map, take, slice_get, nat_eq, is_some, Some, None, Option, sym, ap, ◌∙◌, subst, arith, length-append}
+use Rattle.std.proofs.Common.{◌≡◌, ℕ, ◌+◌, ◌<◌, ◌≤◌, true, false, not, List, [], ◌∷◌, ◌++◌, length, map, take, slice_get, nat_eq, is_some, Some, None, Option, sym, refl, ap, ◌∙◌, subst, ⊎_elim, arith, length-append}
+use Rattle.std.specs.Prelude.{slice_index, slice_index_or}
 use Rattle.std.specs.List.{list_all}
+use Rattle.std.proofs.Math.ListN.{get_or-map}
+use Rattle.std.proofs.lemmas.Bool.{cases_Bool}
 use Rattle.std.proofs.lemmas.List.{length-map, map-append}
 use Rattle.catalog.specs.Catalog.{Catalog, CatalogRow}
 use Rattle.catalog.specs.Meaning.{row_told}
@@ -9,7 +12,8 @@ use Rattle.catalog.specs.declared.row.Row.{Row}
 use Rattle.indexes.specs.Known.{Gained, HasEmpty, Interned, by_oid}
 use Rattle.keys.specs.Senses.{oid_of}
 use Rattle.life.specs.Lists.{is_in}
-use Rattle.life.proofs.Lists.{is_none_if}
+use Rattle.life.proofs.Lists.{in_mem, is_none_if, mem_in, not_both}
+use Rattle.room.proofs.Additions.{mem_map}
 use Rattle.slots.specs.Slots.{Entry}
 use Rattle.slots.specs.Stack.{LentItems, Pushed, slots_lent}
 use Rattle.type_info.specs.declared.oid.Oid.{Oid}
@@ -20,6 +24,7 @@ use Rattle.book.proofs.Put.{pushed_behind, taken}
 use Rattle.finds.specs.declared.tables.Finds.{Finds}
 use Rattle.finds.specs.Finds.{ReadFrom, order_of, queue_of, rows_of}
 use Rattle.finds.specs.Tables.{Lent, Ordered, Queued, at_places, has_row, standing, turns}
+use Rattle.finds.proofs.Few.{few_places}
 use Rattle.finds.proofs.Grown.{leads_on, once_more, places_stay, read_on, row_stays}
 
 -- tables as a step keeps them
@@ -127,3 +132,75 @@ module _ (f : Finds) where
         ∙ ap (λ (rs : List (Option CatalogRow)). map c.rows (take (length rs) (queue_of f))) (sym told)
     row_read_on None pushed c from of =
         subst (λ (x : LentItems (Option Row)). map row_told x.items ≡ map c.rows (take (length (map row_told x.items)) (queue_of f))) (sym pushed.1) from
+
+  -- a row is told at each place that has one
+  told_here : (rows : List (Option Row)) (i : ℕ) → is_some (slice_index_or (map row_told rows) i None) ≡ has_row rows i
+  told_here rows i = ap is_some (get_or-map row_told rows i None) ∙ is_told (slice_index_or rows i None)
+    where
+      is_told : (row : Option Row) → is_some (row_told row) ≡ is_some row
+      is_told None = refl
+      is_told (Some r) = refl
+
+  pub few_settled : length f.order.items ≤ length f.rows.items
+  few_settled = few_places f.rows.items f.order.items f.ordered.placed f.ordered.once
+
+  pub order_long : length (order_of f) ≡ length f.order.items
+  order_long = length-map f.order.items (λ i. slice_index oids i)
+
+  pub rows_long : length (rows_of f) ≡ length f.rows.items
+  rows_long = length-map f.rows.items row_told
+
+  -- a place behind those that are settled
+  module _ (place : ℕ) (row : is_some (slice_index_or (rows_of f) place None) ≡ true) (new : is_in (slice_index (queue_of f) place) (order_of f) ≡ false)
+      (order : LentItems ℕ) (r : Option (Unit {0})) (pushed : Pushed f.order place r order)
+      (p : ℕ) (at : p ≡ slice_index (queue_of f) place) (settled : List (Entry Oid ℕ)) (s : Option ℕ)
+      (interned : Interned (by_oid f.settled p) place (HasEmpty f.settled) (Gained nat_eq oid_of f.settled p place settled) (settled ≡ f.settled) s) where
+    here : has_row f.rows.items place ≡ true
+    here = sym (told_here f.rows.items place) ∙ row
+
+    placed_then : list_all (has_row f.rows.items) (f.order.items ++ place ∷ []) ≡ true
+    placed_then = all_one_more (has_row f.rows.items) f.order.items place f.ordered.placed here
+
+    absent : is_in place f.order.items ≡ false
+    absent =
+        ⊎_elim
+        (λ y. absurd (not_both (mem_in (slice_index oids place) (order_of f) (mem_map (λ i. slice_index oids i) f.order.items place (in_mem place f.order.items y))) new))
+        (λ n. n)
+        (cases_Bool (is_in place f.order.items))
+
+    once_then : Distinct (f.order.items ++ place ∷ [])
+    once_then = once_more f.order.items place f.ordered.once absent
+
+    settled_room : length f.order.items + 1 ≤ length f.rows.items
+    settled_room = omega (arith, few_places f.rows.items (f.order.items ++ place ∷ []) placed_then once_then, length-append f.order.items (place ∷ []))
+
+    order_behind : (order.items ≡ f.order.items ++ place ∷ []) × (slots_lent order ≡ slots_lent f.order)
+    order_behind = pushed_behind f.order place r order pushed (omega (arith, settled_room, f.lent.rows_lent, f.lent.order_lent))
+
+    place_gained : Gained nat_eq oid_of f.settled p place settled
+    place_gained =
+        taken (by_oid f.settled p) place _ _ _ s interned
+        (is_none_if (by_oid f.settled p) (f.ordered.indexed p ∙ ap (λ o. is_in o (order_of f)) at ∙ new))
+        (omega (arith, few_settled, f.lent.rows_lent, f.lent.settled_lent, f.ordered.counted))
+
+    order_then : turns f.queue order ≡ order_of f ++ slice_index oids place ∷ []
+    order_then = ap (at_places oids) order_behind.0 ∙ map-append (λ i. slice_index oids i) f.order.items (place ∷ [])
+
+    pub place_put : Keeps f.queue f.index f.rows order settled
+    place_put = record {
+      lent = record {
+        queue_lent = f.lent.queue_lent;
+        index_lent = f.lent.index_lent;
+        rows_lent = f.lent.rows_lent;
+        order_lent = order_behind.1 ∙ f.lent.order_lent;
+        settled_lent = place_gained.size ∙ f.lent.settled_lent;
+      };
+      queued = f.queued;
+      ordered = record {
+        read = f.ordered.read;
+        placed = ap (list_all (has_row f.rows.items)) order_behind.0 ∙ placed_then;
+        once = subst Distinct (sym order_behind.0) once_then;
+        indexed = λ o. leads_on f.settled (order_of f) p place settled f.ordered.indexed place_gained o ∙ ap (is_in o) (ap (λ q. order_of f ++ q ∷ []) at ∙ sym order_then);
+        counted = place_gained.count ∙ ap (λ n. n + 1) f.ordered.counted ∙ omega (arith, ap length order_behind.0, length-append f.order.items (place ∷ []));
+      };
+    }

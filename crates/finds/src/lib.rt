@@ -4,4 +4,5 @@
 pub mod making;
 pub mod memory;
 pub mod reading;
+pub mod settling;
 pub mod tables;

@@ -15,14 +15,14 @@ use type_info::oid::Oid;
 
 impl<'a> Finds<'a> {
     // How many OIDs stand.
-    pub fn oids(&self) -> usize
+    pub fn oid_count(&self) -> usize
         ensures { result ≡ length (queue_of self.now) }
     {
         self.queue.len()
     }
 
     // How many rows were read.
-    pub fn reads(&self) -> usize
+    pub fn row_count(&self) -> usize
         ensures { result ≡ length (rows_of self.now) }
     {
         self.rows.len()
