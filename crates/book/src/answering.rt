@@ -60,7 +60,7 @@ fn built_of(kind: BuiltInKind) -> Option<Oid>
 }
 
 // The settled type of a component: nothing for an OID that is not built in.
-fn settle(component: Component) -> Option<Settled>
+fn settled_type(component: Component) -> Option<Settled>
     ensures tree { (h : Held) → option_map (settled_tree h) result ≡ settled_component h component }
     ensures told { (h : Held) →
         option_map (settled_told h) result ≡ option_map (option_and_then tree_told) (settled_component h component) }
@@ -177,7 +177,7 @@ impl<'a> Book<'a> {
         ensures told { option_map (settled_told (held_of self.now)) result
             ≡ option_map tree_told (option_and_then (λ t. slice_get t.components i) (settled_told (held_of self.now) settled)) }
     {
-        settle(self.made_of(settled, i)?)
+        settled_type(self.made_of(settled, i)?)
     }
 
     // The element of an array: any other type has none.

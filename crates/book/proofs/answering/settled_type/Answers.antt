@@ -1,7 +1,7 @@
 use Rattle.std.proofs.Common.{ap, sym, ◌∙◌}
 use Rattle.book.specs.Settled.{settled_component}
 use Rattle.book.proofs.Told.{entry_stands}
-use Rattle.book.proofs.answering.settle.Goals as goal
+use Rattle.book.proofs.answering.settled_type.Goals as goal
 
 pub returns-in_ok-by_oid-in-BuiltIn-clause-tree : goal.returns-in_ok-by_oid-in-BuiltIn-clause-tree
 returns-in_ok-by_oid-in-BuiltIn-clause-tree c = λ h.
