@@ -3,3 +3,4 @@ pub mod Few
 pub mod Put
 pub mod Passing
 pub mod Ended
+pub mod Turns

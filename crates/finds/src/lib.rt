@@ -6,3 +6,4 @@ pub mod memory;
 pub mod reading;
 pub mod settling;
 pub mod tables;
+pub mod telling;
