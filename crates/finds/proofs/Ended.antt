@@ -22,7 +22,7 @@ use Rattle.unfolding.specs.Lists.{Mem}
 use Rattle.unfolding.specs.Unfolding.{built_in}
 use Rattle.finds.specs.declared.tables.Finds.{Finds}
 use Rattle.finds.specs.Finds.{ReadFrom, order_of, queue_of, reads_of, rows_of}
-use Rattle.finds.specs.Settling.{Passed, follows_at}
+use Rattle.finds.specs.Passes.{Passed, follows_at}
 use Rattle.finds.specs.Tables.{has_row}
 use Rattle.finds.proofs.Few.{all_mem}
 use Rattle.finds.proofs.Grown.{row_within}
@@ -43,7 +43,7 @@ place_of (p ∷ os) o m =
     m
 
 module _ (f : Finds) where
-  reads_long : length (reads_of f) ≡ length (rows_of f)
+  pub reads_long : length (reads_of f) ≡ length (rows_of f)
   reads_long = length-take-le (length (rows_of f)) (queue_of f) (omega (arith, f.ordered.read, length-map f.rows.items row_told, length-map f.queue.items oid_of))
 
   pub reads_queued : (o : ℕ) → Mem o (reads_of f) → Mem o (queue_of f)

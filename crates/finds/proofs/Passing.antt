@@ -15,7 +15,7 @@ use Rattle.life.proofs.InTurn.{in_turn_more}
 use Rattle.life.proofs.Lists.{not_both}
 use Rattle.finds.specs.declared.tables.Finds.{Finds}
 use Rattle.finds.specs.Finds.{ReadFrom, order_of, queue_of, reads_of, rows_of}
-use Rattle.finds.specs.Settling.{Passed, follows, follows_at}
+use Rattle.finds.specs.Passes.{Passed, follows, follows_at}
 
 -- where the queue and the rows are the same, what is read from a catalog stays so
 pub from_same : (c : Catalog) (f g : Finds) → queue_of g ≡ queue_of f → rows_of g ≡ rows_of f → ReadFrom c f → ReadFrom c g

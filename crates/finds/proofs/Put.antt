@@ -40,7 +40,7 @@ module _ (f : Finds) where
   oids_long : length oids ≡ length f.queue.items
   oids_long = length-map f.queue.items oid_of
 
-  pub few_oids : length f.queue.items < 257 + 1
+  pub few_oids : length f.queue.items ≤ 257
   few_oids = omega (arith, f.lent.queue_lent)
 
   -- an OID behind the others

@@ -1,3 +1,3 @@
 pub mod Tables
 pub mod Finds
-pub mod Settling
+pub mod Passes

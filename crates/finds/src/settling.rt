@@ -6,7 +6,7 @@ ghost use Rattle.book.specs.Held.{book_held};
 ghost use Rattle.catalog.specs.Catalog.{Catalog};
 ghost use Rattle.catalog.specs.Meaning.{links_told};
 ghost use Rattle.finds.specs.Finds.{ReadFrom, order_of, queue_of, reads_of, rows_of};
-ghost use Rattle.finds.specs.Settling.{Passed, follows_at};
+ghost use Rattle.finds.specs.Passes.{Passed, follows_at};
 ghost use Rattle.life.specs.InTurn.{InTurn, known_so};
 ghost use Rattle.life.specs.Lists.{is_in};
 ghost use Rattle.life.specs.Settle.{pass, settled};

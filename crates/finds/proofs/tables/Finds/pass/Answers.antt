@@ -3,7 +3,7 @@ use Rattle.std.proofs.lemmas.List.{length-map}
 use Rattle.catalog.specs.Meaning.{row_told}
 use Rattle.book.specs.Book.{held_of}
 use Rattle.book.specs.Held.{book_held}
-use Rattle.finds.specs.Settling.{Passed}
+use Rattle.finds.specs.Passes.{Passed}
 use Rattle.finds.proofs.Passing.{nothing_passed, passed_by, settled_at_place}
 use Rattle.finds.proofs.tables.Finds.pass.Goals as goal
 

@@ -1,6 +1,6 @@
 use Rattle.book.specs.Book.{held_of}
 use Rattle.book.specs.Held.{book_held}
-use Rattle.finds.specs.Settling.{Passed}
+use Rattle.finds.specs.Passes.{Passed}
 use Rattle.finds.proofs.tables.Finds.pass.Given as goal
 
 abbrev pub invariant-loop-place : goal.invariant-loop-place
