@@ -79,6 +79,14 @@ size_of_parts head = record no_sizes { parts = length (part_names head); text = 
 abbrev pub size_of_shape : Shape → Sizes
 size_of_shape s = record (size_of_parts s.head) { descriptors = 1; text = length s.name + bytes (part_names s.head) }
 
+-- what a row's descriptor takes: nothing where the row is malformed
+abbrev pub size_if : Option Shape → Sizes
+size_if None = no_sizes
+size_if (Some s) = size_of_shape s
+
+abbrev pub size_of_row : CatalogRow → Sizes
+size_of_row r = size_if (shape r)
+
 -- an OID can be described so: it is not known, what it is made of is, and there is room
 abbrev pub settles_so : Held → ℕ → Option Shape → Bool
 settles_so h o None = false

@@ -54,6 +54,16 @@ pub record Fits (taken capacity : Sizes) : Type 0 where
   pub columns : taken.columns ≤ capacity.columns
   pub relations : taken.relations ≤ capacity.relations
 
+-- each is n at most
+pub record FewOf (n : ℕ) (s : Sizes) : Type 0 where
+  pub descriptors : s.descriptors ≤ n
+  pub parts : s.parts ≤ n
+  pub names : s.names ≤ n
+  pub arrays : s.arrays ≤ n
+  pub text : s.text ≤ n
+  pub columns : s.columns ≤ n
+  pub relations : s.relations ≤ n
+
 -- nothing is held, at some capacity
 abbrev pub nothing_held : Sizes → Held
 nothing_held capacity = record {

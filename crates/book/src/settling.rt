@@ -1,9 +1,9 @@
 // How the row of an OID becomes its descriptor.
 ghost use Rattle.std.specs.Prelude.{◌≡◌, ◌≤◌, if◌then◌else◌, true, false, is_some, length, map, slice_get, option_and_then, MatchOption, Some};
 ghost use Rattle.std.specs.List.{list_all};
-ghost use Rattle.book.specs.Adding.{KindLaid, PartsOf, attribute_members, component_for, is_known, label_members, row_members, settles, settles_so, size_of_parts, size_of_shape, with_row};
+ghost use Rattle.book.specs.Adding.{KindLaid, PartsOf, attribute_members, component_for, is_known, label_members, row_members, settles, settles_so, size_of_parts, size_of_row, size_of_shape, with_row};
 ghost use Rattle.book.specs.Book.{held_of};
-ghost use Rattle.book.specs.Held.{Fits, book_held, size_of_members, sum_of, with_members};
+ghost use Rattle.book.specs.Held.{FewOf, Fits, book_held, size_of_members, sum_of, with_members};
 ghost use Rattle.book.specs.Sizes.{sizes_told};
 ghost use Rattle.book.specs.Stands.{RoomForRow, Stands, one_row, row_tree};
 ghost use Rattle.catalog.specs.Catalog.{Catalog};
@@ -51,6 +51,7 @@ fn size_of_parts(row: &Row, head: Head<'_>) -> Sizes
     requires { PartsOf (row_meaning row.now) (head_meaning head) }
     ensures sizes { sizes_told result ≡ size_of_parts (head_meaning head.entry) }
     ensures few { result.text ≤ 4032 }
+    ensures parts_few { result.parts ≤ 64 }
 {
     match head {
         Head::Simple | Head::Pseudo | Head::Domain | Head::Array | Head::Range => Sizes::NONE,
@@ -70,13 +71,25 @@ fn size_of_parts(row: &Row, head: Head<'_>) -> Sizes
 // How much the descriptor of a row takes.
 fn size_of(row: &Row, shape: &Shape<'_>) -> Sizes
     requires { shape_of (row_meaning row.now) ≡ Some (shape_meaning shape.now) }
-    ensures { sizes_told result ≡ size_of_shape (shape_meaning shape.now) }
+    ensures sizes { sizes_told result ≡ size_of_shape (shape_meaning shape.now) }
+    ensures few { FewOf 8192 (sizes_told result) }
 {
     let parts = size_of_parts(row, shape.head);
     Sizes {
         descriptors: 1,
         text: shape.name.len() + parts.text,
         ..parts
+    }
+}
+
+// How much the descriptor that a row tells takes. Nothing where the row is malformed.
+pub fn size_of_row(row: &Row) -> Sizes
+    ensures sizes { sizes_told result ≡ size_of_row (row_meaning row.now) }
+    ensures few { FewOf 8192 (sizes_told result) }
+{
+    match row.shape() {
+        Ok(shape) => size_of(row, &shape),
+        Err(_) => Sizes::NONE,
     }
 }
 
