@@ -4,3 +4,10 @@ pub mod Put
 pub mod Passing
 pub mod Ended
 pub mod Turns
+pub mod Steps
+pub mod News
+pub mod Gathering
+pub mod Told
+pub mod InBook
+pub mod Counted
+pub mod Landed

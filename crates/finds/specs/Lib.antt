@@ -1,3 +1,5 @@
 pub mod Tables
 pub mod Finds
 pub mod Passes
+pub mod Settling
+pub mod Keeping
