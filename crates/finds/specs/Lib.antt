@@ -1,5 +1,4 @@
 pub mod Tables
 pub mod Finds
 pub mod Passes
-pub mod Settling
 pub mod Keeping
