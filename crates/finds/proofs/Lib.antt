@@ -11,3 +11,4 @@ pub mod Told
 pub mod InBook
 pub mod Counted
 pub mod Landed
+pub mod Related

@@ -2,3 +2,4 @@ pub mod Tables
 pub mod Finds
 pub mod Passes
 pub mod Keeping
+pub mod Columns
