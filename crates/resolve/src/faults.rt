@@ -1,0 +1,54 @@
+// What the rounds of types refuse, and what each refusal tells.
+ghost use Rattle.std.specs.Prelude.{◌≡◌};
+ghost use Rattle.life.specs.Faults.{of_layer_fill as fill_layer};
+ghost use Rattle.resolve.specs.Faults.{refusal_of};
+ghost use Rattle.resolve.specs.declared.faults.FillFault.TheVariants.{Catalog as OfCatalog};
+
+use catalog::faults::{CatalogFault, Layer, Told};
+use type_info::oid::Oid;
+
+// The last round that a step may open.
+pub const MOST_ROUNDS: u8 = 64;
+
+#[derive(Clone, Copy, PartialEq, Eq, Debug)]
+pub enum FillFault {
+    Catalog(CatalogFault),
+    // OIDs wait for a round behind the last.
+    TooManyRounds,
+    // The row of this OID, read in this round, is malformed.
+    Malformed { oid: Oid, round: u8 },
+    // In this round this OID waits, and no more rows may be read.
+    TooManyRows { oid: Oid, round: u8 },
+}
+
+impl From<CatalogFault> for FillFault {
+    ghost from_gives = { λ fault r. r ≡ OfCatalog fault };
+
+    fn from(fault: CatalogFault) -> FillFault {
+        FillFault::Catalog(fault)
+    }
+}
+
+impl FillFault {
+    pub fn told(&self) -> Told
+        ensures { result ≡ refusal_of self.now }
+    {
+        match *self {
+            FillFault::Catalog(fault) => fault.told(),
+            FillFault::TooManyRounds => of_layer_fill(4, u32::from(MOST_ROUNDS) + 1, MOST_ROUNDS),
+            FillFault::Malformed { oid, round } => of_layer_fill(6, oid.0, round),
+            FillFault::TooManyRows { oid, round } => of_layer_fill(7, oid.0, round),
+        }
+    }
+}
+
+fn of_layer_fill(number: u8, place: u32, rounds: u8) -> Told
+    ensures { result ≡ fill_layer number place rounds }
+{
+    Told {
+        number,
+        place,
+        layer: Layer::Fill,
+        rounds,
+    }
+}

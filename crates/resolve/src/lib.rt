@@ -1,0 +1,5 @@
+// The rounds of a step: its OIDs are asked for, round after round, until nothing waits.
+#![tactic(auto)]
+
+pub mod faults;
+pub mod reading;
