@@ -1,7 +1,8 @@
 -- A queue that is cut to its first k places while OIDs are pushed.
 -- Assumes nothing.
-use Rattle.std.proofs.Common.{◌≡◌, ℕ, ◌+◌, ◌≤◌, Bool, ◌||◌, List, [], ◌∷◌, ◌++◌, length, take, nat_eq, nat_lt, if◌then◌else◌, sym, refl, ap, ◌∙◌, subst, ⊎_elim, arith, length-append}
+use Rattle.std.proofs.Common.{◌≡◌, ℕ, ◌+◌, ◌-◌, ◌≤◌, Bool, ◌||◌, List, [], ◌∷◌, ◌++◌, length, take, nat_eq, nat_lt, if◌then◌else◌, sym, refl, ap, ◌∙◌, subst, ⊎_elim, arith, length-append}
 use Rattle.std.specs.List.{list_any}
+use Rattle.std.proofs.Math.Seq.{take-append-add}
 use Rattle.std.proofs.lemmas.Bool.{cases_Bool, cases_lt, ltb-true, ltb-false}
 use Rattle.std.proofs.lemmas.Bool.Decides.{Decides-eqb}
 use Rattle.std.proofs.lemmas.List.{take-append-le, take_all, length-take-le}
@@ -60,3 +61,11 @@ module _ (skip : ℕ → Bool) where
 
   pub with_none : (queue : List ℕ) → length queue ≤ 257 → with_all skip queue [] ≡ queue
   with_none queue few = take_all 257 queue few
+
+  -- what stands stays in front
+  pub with_behind : (os queue : List ℕ) → length queue ≤ 257 → with_all skip queue os ≡ queue ++ take (257 - length queue) (fresh skip queue os)
+  with_behind os queue few =
+      let all_places : 257 ≡ length queue + (257 - length queue) = omega arith in
+      ap (take 257) (longer os queue)
+      ∙ ap (λ k. take k (queue ++ fresh skip queue os)) all_places
+      ∙ take-append-add queue (fresh skip queue os) (257 - length queue)

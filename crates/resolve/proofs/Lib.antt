@@ -1,3 +1,4 @@
 pub mod Cut
 pub mod Pushing
 pub mod Rows
+pub mod InRound

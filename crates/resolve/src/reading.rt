@@ -2,7 +2,7 @@
 ghost use Rattle.std.specs.Prelude.{◌≡◌, ◌<◌, ◌≤◌, MatchResult, length, map};
 ghost use Rattle.finds.specs.Finds.{order_of, queue_of, reads_of, rows_of};
 ghost use Rattle.keys.specs.Senses.{oid_of};
-ghost use Rattle.resolve.specs.Rounds.{RowRead, RowRefused, with_all};
+ghost use Rattle.resolve.specs.Rounds.{RoundRead, RoundRefused, RowRead, RowRefused, with_all};
 ghost use Rattle.resolve.specs.Walks.{known_to};
 
 use crate::faults::FillFault;
@@ -68,4 +68,25 @@ fn read_row<C: TypeCatalog>(
         }
         Err(_) => Err(FillFault::Malformed { oid, round }),
     }
+}
+
+// Reads the rows of all OIDs that wait as the round begins.
+fn read_rows<C: TypeCatalog>(
+    finds: &mut Finds<'_>,
+    book: &Book<'_>,
+    catalog: &C,
+    opened: &C::Round,
+    most: usize,
+    round: u8,
+) -> Result<(), FillFault>
+    requires most { most ≤ 256 }
+    ensures { let c = C.meaning catalog.now in MatchResult result
+        (λ _. RoundRead c (known_to book.now) most finds.old finds.new)
+        (λ fault. RoundRefused c most round finds.old fault) }
+{
+    let end = finds.oid_count();
+    while finds.row_count() < end {
+        read_row(finds, book, catalog, opened, most, round)?;
+    }
+    Ok(())
 }
