@@ -1,8 +1,8 @@
 -- The rows of a round, one after the other.
 -- Assumes nothing.
-use Rattle.std.proofs.Common.{◌≡◌, ℕ, suc, ◌+◌, ◌-◌, ◌<◌, ◌≤◌, Bool, List, [], ◌∷◌, ◌++◌, length, map, take, drop, get_or, Option, sym, refl, ap, ◌∙◌, subst, arith, append_assoc, append-nil, length-append}
+use Rattle.std.proofs.Common.{◌≡◌, ℕ, suc, ◌+◌, ◌-◌, ◌<◌, ◌≤◌, Bool, List, [], ◌∷◌, ◌++◌, length, map, take, drop, get_or, sym, refl, ap, ◌∙◌, arith, append_assoc, append-nil, length-append}
 use Rattle.std.proofs.lemmas.List.{drop_all, drop_more, get_or_append_left, length-map, length_push}
-use Rattle.catalog.specs.Catalog.{Catalog, CatalogRow}
+use Rattle.catalog.specs.Catalog.{Catalog}
 use Rattle.catalog.specs.Meaning.{row_told}
 use Rattle.catalog.specs.Shape.{formed}
 use Rattle.keys.specs.Senses.{oid_of}

@@ -2,3 +2,5 @@ pub mod Cut
 pub mod Pushing
 pub mod Rows
 pub mod InRound
+pub mod Turns
+pub mod Walking

@@ -37,13 +37,13 @@ ask_good c left o os = chosen_false (malformed c o) _ _
 ask_ill : (c : Catalog) (left o : ℕ) (os : List ℕ) → malformed c o ≡ true → ask c (suc left) (o ∷ os) ≡ stop 6 o
 ask_ill c left o os = chosen_true (malformed c o) _ _
 
-module _ (c : Catalog) (skip : ℕ → Bool) (most : ℕ) (f g : Finds) (waiting : length (rows_of f) < length (queue_of f)) (top : most ≤ 256) (room : length (rows_of f) < most)
+module _ (c : Catalog) (skip : ℕ → Bool) (most : ℕ) (f : Finds) (waiting : length (rows_of f) < length (queue_of f)) (top : most ≤ 256) (room : length (rows_of f) < most)
     (o : ℕ) (told : Some o ≡ slice_get (queue_of f) (length (rows_of f))) where
   is_next : o ≡ next_of f
   is_next = let e : Some o ≡ Some (next_of f) = told ∙ slice_get-get_or (queue_of f) (length (rows_of f)) 0 waiting in cc
 
-  -- there is a place for the row
-  module _ (put : Bool) (placed : put ≡ waits (queue_of f) (rows_of f)) (row : Option CatalogRow) (is : row ≡ c.rows o)
+  -- there is a place for the row, which is kept in g
+  module _ (g : Finds) (put : Bool) (placed : put ≡ waits (queue_of f) (rows_of f)) (queue : queue_of g ≡ queue_of f) (row : Option CatalogRow) (is : row ≡ c.rows o)
       (rows : rows_of g ≡ (if put then rows_of f ++ row ∷ [] else rows_of f)) where
     row_kept : rows_of g ≡ rows_of f ++ c.rows (next_of f) ∷ []
     row_kept =
@@ -53,20 +53,21 @@ module _ (c : Catalog) (skip : ℕ → Bool) (most : ℕ) (f g : Finds) (waiting
         ∙ ap (λ (t : Bool). if t then rows_of f ++ row ∷ [] else rows_of f) there
         ∙ ap (λ r. rows_of f ++ r ∷ []) (is ∙ ap c.rows is_next)
 
-    -- of an OID of this shape
-    shaped_read : (s : Option Shape) → (malformed c o ≡ false) × (s ≡ formed c o) → queue_of g ≡ with_all skip (queue_of f) (links_in s) → RowRead c skip most f g
-    shaped_read s well queue = record {
+    -- then the links of its shape are pushed, and it is h
+    shaped_read : (s : Option Shape) (h : Finds) → (malformed c o ≡ false) × (s ≡ formed c o) → queue_of h ≡ with_all skip (queue_of g) (links_in s) → rows_of h ≡ rows_of g → RowRead c skip most f h
+    shaped_read s h well pushed same = record {
       room = room;
       good = sym (ap (malformed c) is_next) ∙ well.0;
-      queue = queue ∙ ap (λ (x : Option Shape). with_all skip (queue_of f) (links_in x)) (well.1 ∙ ap (formed c) is_next);
-      rows = row_kept;
+      queue = pushed ∙ (λ i. with_all skip (queue i) (links_in (well.1 i))) ∙ ap (λ p. with_all skip (queue_of f) (links_in (formed c p))) is_next;
+      rows = same ∙ row_kept;
     }
 
-    pub read_none : row ≡ None → queue_of g ≡ queue_of f → RowRead c skip most f g
-    read_none none queue = shaped_read None (no_row c o (sym none ∙ is)) (queue ∙ sym (with_none skip (queue_of f) (few_queued f)))
+    pub read_none : row ≡ None → RowRead c skip most f g
+    read_none none = shaped_read None g (no_row c o (sym none ∙ is)) (sym (with_none skip (queue_of g) (few_queued g))) refl
 
-    pub read_good : (r : CatalogRow) (s : Shape) → row ≡ Some r → Some s ≡ shape r → queue_of g ≡ with_all skip (queue_of f) s.links → RowRead c skip most f g
-    read_good r s some well queue = shaped_read (Some s) (good_row c o r s (sym some ∙ is) well) queue
+    pub read_good : (r : CatalogRow) (s : Shape) (links : List ℕ) (h : Finds) → row ≡ Some r → Some s ≡ shape r → links ≡ s.links → queue_of h ≡ with_all skip (queue_of g) links →
+        rows_of h ≡ rows_of g → RowRead c skip most f h
+    read_good r s links h some well linked pushed = shaped_read (Some s) h (good_row c o r s (sym some ∙ is) well) (pushed ∙ ap (with_all skip (queue_of g)) linked)
 
   pub read_ill : (r : CatalogRow) (oid : Oid) (round : ℕ) → oid.0 ≡ o → Some r ≡ c.rows o → None ≡ shape r → RowRefused c most round f (Malformed oid round)
   read_ill r oid round same row ill = record {

@@ -1,6 +1,6 @@
 -- What one row, and what one round, makes of what a step has found: f before, g after.
 -- Assumes nothing.
-use Rattle.std.specs.Prelude.{◌≡◌, ℕ, suc, ◌-◌, ◌<◌, ◌≤◌, Bool, false, List, [], ◌∷◌, ◌++◌, length, map, take, nat_eq}
+use Rattle.std.specs.Prelude.{◌≡◌, ℕ, ◌+◌, ◌-◌, ◌<◌, ◌≤◌, Bool, false, List, [], ◌∷◌, ◌++◌, length, map, take, nat_eq}
 use Rattle.catalog.specs.Catalog.{Catalog, Opened, Spent}
 use Rattle.catalog.specs.Shape.{formed}
 use Rattle.life.specs.Lists.{push_all}
@@ -39,7 +39,7 @@ pub record RoundRefused (c : Catalog) (most round : ℕ) (f : Finds) (fault : Fi
 
 -- a round was opened, read and closed: the walk goes on behind it
 pub record Turned (c d : Catalog) (skip : ℕ → Bool) (most opened : ℕ) (f g : Finds) : Type 0 where
-  pub on : walk_at c skip most opened f ≡ walk_at d skip most (suc opened) g
+  pub on : walk_at c skip most opened f ≡ walk_at d skip most (opened + 1) g
   pub cost : Opened c d
   pub read : ReadFrom c f → ReadFrom c g
 

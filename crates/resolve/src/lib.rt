@@ -3,3 +3,4 @@
 
 pub mod faults;
 pub mod reading;
+pub mod rounds;

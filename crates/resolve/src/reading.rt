@@ -71,7 +71,7 @@ fn read_row<C: TypeCatalog>(
 }
 
 // Reads the rows of all OIDs that wait as the round begins.
-fn read_rows<C: TypeCatalog>(
+pub(crate) fn read_rows<C: TypeCatalog>(
     finds: &mut Finds<'_>,
     book: &Book<'_>,
     catalog: &C,

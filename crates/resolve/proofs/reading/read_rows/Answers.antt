@@ -1,4 +1,4 @@
-use Rattle.std.proofs.Common.{◌≡◌, ◌<◌, ◌≤◌, length, arith}
+use Rattle.std.proofs.Common.{◌<◌, length, arith}
 use Rattle.std.proofs.lemmas.Result.{err_from_is_err_and}
 use Rattle.finds.specs.Finds.{queue_of, rows_of}
 use Rattle.resolve.specs.Walks.{known_to}
@@ -16,8 +16,11 @@ read_row-requires-clause-waits g c =
 pub loop-finds-smaller : goal.loop-finds-smaller
 loop-finds-smaller g c =
     let more : length (rows_of c.loop-finds.finds) < length (queue_of c.args.finds.now) = omega (arith, c.row_count.ensures, c.oid_count-end.ensures, c.loop-finds-test.true) in
-    omega (arith, c.oid_count-end.ensures,
-    row_nearer (g.C.TypeCatalog.meaning c.args.catalog.now) (known_to c.args.book.now) c.args.most c.args.finds.now c.loop-finds.finds c.loop-finds.invariant c.read_row.new.finds more c.in_ok-read_row.ensures)
+    omega (
+      arith,
+      c.oid_count-end.ensures,
+      row_nearer (g.C.TypeCatalog.meaning c.args.catalog.now) (known_to c.args.book.now) c.args.most c.args.finds.now c.loop-finds.finds c.loop-finds.invariant c.read_row.new.finds more c.in_ok-read_row.ensures,
+    )
 
 pub loop-finds-preserved : goal.loop-finds-preserved
 loop-finds-preserved g c =
