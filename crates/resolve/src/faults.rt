@@ -1,10 +1,12 @@
 // What the rounds of types refuse, and what each refusal tells.
-ghost use Rattle.std.specs.Prelude.{◌≡◌};
+ghost use Rattle.std.specs.Prelude.{◌≡◌, Some};
 ghost use Rattle.life.specs.Faults.{of_layer_fill as fill_layer};
-ghost use Rattle.resolve.specs.Faults.{refusal_of};
+ghost use Rattle.resolve.specs.Faults.{fill_text, refusal_of};
 ghost use Rattle.resolve.specs.declared.faults.FillFault.TheVariants.{Catalog as OfCatalog};
 
 use catalog::faults::{CatalogFault, Layer, Told};
+use std::error::Error;
+use std::fmt;
 use type_info::oid::Oid;
 
 // The last round that a step may open.
@@ -41,6 +43,25 @@ impl FillFault {
         }
     }
 }
+
+impl fmt::Display for FillFault {
+    ghost output = { λ fault. Some (fill_text fault) };
+
+    fn fmt<W: fmt::Write>(&self, f: &mut fmt::Formatter<W>) -> fmt::Result {
+        match self {
+            FillFault::Catalog(fault) => write!(f, "{fault}"),
+            FillFault::TooManyRounds => write!(f, "too many rounds"),
+            FillFault::Malformed { oid, round: _ } => {
+                write!(f, "the row of {} is malformed", oid.0)
+            }
+            FillFault::TooManyRows { oid, round: _ } => {
+                write!(f, "too many rows: {} is left", oid.0)
+            }
+        }
+    }
+}
+
+impl Error for FillFault {}
 
 fn of_layer_fill(number: u8, place: u32, rounds: u8) -> Told
     ensures { result ≡ fill_layer number place rounds }
