@@ -165,7 +165,12 @@ fn count(book: &Book<'_>, links: Links, settled: usize, fits: bool) -> Told {
     }
 }
 
-pub fn step(texts: &Texts, finds: finds::memory::Memory<'_>, book: Memory<'_>, links: Links) -> Told {
+pub fn step(
+    texts: &Texts,
+    finds: finds::memory::Memory<'_>,
+    book: Memory<'_>,
+    links: Links,
+) -> Told {
     let mut book = Book::new(book);
     let Some(mut finds) = Finds::new(finds) else {
         return count(&book, links, 0, false);
@@ -182,5 +187,10 @@ pub fn step(texts: &Texts, finds: finds::memory::Memory<'_>, book: Memory<'_>, l
     let added = finds.added(&book);
     let fits = book.room(added).is_none();
     finds.keep(&mut book);
-    count(&book, links, finds.settled_count(), fits && book.taken() == added)
+    count(
+        &book,
+        links,
+        finds.settled_count(),
+        fits && book.taken() == added,
+    )
 }
