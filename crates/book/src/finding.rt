@@ -1,5 +1,5 @@
 // What a book has already.
-ghost use Rattle.std.specs.Prelude.{◌≡◌};
+ghost use Rattle.std.specs.Prelude.{◌≡◌, is_some};
 ghost use Rattle.std.specs.List.{list_all};
 ghost use Rattle.book.specs.Book.{held_of};
 ghost use Rattle.life.specs.Walk.{answered};
@@ -30,6 +30,13 @@ impl<'a> Book<'a> {
         ensures { result ≡ answered (book_held (held_of self.now)).descriptors oid.0 }
     {
         self.component_for(oid).is_some()
+    }
+
+    // Whether the table of the relation is held.
+    pub fn relates(&self, relation: Oid) -> bool
+        ensures { result ≡ is_some ((held_of self.now).relations relation.0) }
+    {
+        self.relations.find(relation).is_some()
     }
 
     fn knows_each(&self, oids: &[Oid]) -> bool
