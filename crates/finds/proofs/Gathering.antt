@@ -9,6 +9,7 @@ use Rattle.catalog.specs.Catalog.{CatalogRow}
 use Rattle.catalog.specs.Shape.{Name, Shape, shape}
 use Rattle.unfolding.specs.Unfolding.{Tree}
 use Rattle.life.specs.Steps.{Book}
+use Rattle.life.proofs.Lists.{is_none_if}
 use Rattle.room.specs.Added.{new_by}
 use Rattle.room.specs.Sizes.{AllFits, Sizes, sizes_of}
 use Rattle.room.specs.Tables.{Tables, extended, look_up, no_tables}
@@ -19,7 +20,6 @@ use Rattle.book.specs.Adding.{adds_array, adds_name, with_row, with_shape}
 use Rattle.book.specs.Held.{Fits, Held, has_room, size_of_array, size_of_name, sum_of, with_array, with_name}
 use Rattle.book.specs.Stands.{Stands, one_array, one_name}
 use Rattle.book.proofs.Stands.{stands_array, stands_name}
-use Rattle.life.proofs.Lists.{is_none_if}
 use Rattle.finds.specs.Keeping.{Find, array_kept, each, link_kept, name_kept, row_kept}
 use Rattle.finds.proofs.News.{new_held, new_one}
 

@@ -1,6 +1,6 @@
 -- A book that takes in what a step found stands for what the law adds.
 -- Assumes nothing.
-use Rattle.std.proofs.Common.{◌≡◌, ℕ, ◌+◌, ◌↔◌, ◌||◌, true, List, [], ◌++◌, map, nat_eq, bytes_eq, is_some, None, Option, sym, refl, ap, ◌∙◌, subst, arith, append-nil}
+use Rattle.std.proofs.Common.{◌≡◌, ℕ, ◌+◌, ◌↔◌, ◌||◌, true, List, [], ◌++◌, map, nat_eq, bytes_eq, is_some, None, Option, sym, refl, ap, ◌∙◌, subst, arith, append-nil, take, length}
 use Rattle.std.specs.Option.{option_or}
 use Rattle.std.proofs.lemmas.Bool.Decides.{Decides-eqb}
 use Rattle.std.proofs.lemmas.List.Sorted.{IsPermutation-refl}
@@ -11,10 +11,11 @@ use Rattle.catalog.specs.Shape.{Name}
 use Rattle.unfolding.specs.Lists.{Mem}
 use Rattle.unfolding.specs.Unfolding.{Tree}
 use Rattle.life.specs.Calls.{Call, array_link}
+use Rattle.life.specs.InTurn.{InTurn}
 use Rattle.life.specs.Keep.{if_settled}
 use Rattle.life.specs.Lists.{is_in}
 use Rattle.life.specs.Rounds.{Descriptors}
-use Rattle.life.specs.Settle.{pass}
+use Rattle.life.specs.Settle.{pass, settled}
 use Rattle.life.specs.Steps.{Book}
 use Rattle.life.proofs.InTurn.{in_turn_described, in_turn_none, in_turn_once, in_turn_unknown}
 use Rattle.life.proofs.Lists.{in_mem, none_not_some}
@@ -31,7 +32,7 @@ use Rattle.book.specs.Stands.{Stands}
 use Rattle.book.proofs.Alike.{alike_stands}
 use Rattle.book.proofs.Room.{fits_then}
 use Rattle.finds.specs.declared.tables.Finds.{Finds}
-use Rattle.finds.specs.Finds.{ReadFrom, order_of, queue_of, reads_of}
+use Rattle.finds.specs.Finds.{ReadFrom, order_of, queue_of, reads_of, rows_of}
 use Rattle.finds.specs.Keeping.{SettledBy, array_kept, array_size, each, name_kept, row_kept, settled_size, size_of_all, size_of_finds, with_finds}
 use Rattle.finds.proofs.Counted.{links_size, names_size, rows_size, settled_sizes}
 use Rattle.finds.proofs.Gathering.{each_capacity, each_link, fits_first, links_in, links_kept, name_capacity, names_in, names_kept, new_links, new_names, of_arrays, of_descriptors, of_names, row_capacity}
@@ -262,3 +263,10 @@ module _ (c : Catalog) (laws : Laws c) (f : Finds) (from : ReadFrom c f) (t : Ta
         let fits = subst (λ (z : Sizes). Fits z h.capacity) taken (fits_then h.capacity h.taken (sizes_of (types_added c t call reads [])) room) in
         subst (λ (u : Tables). Stands (with_finds h f) (extended t u)) (sym (law_so call none))
         (alike_stands (with_finds h f) (extended t found) (extended t by_law) (stands_found fits) alike refl)
+
+-- settling leaves finds that are settled so
+pub settled_by : (c : Catalog) (b : Descriptors) (f g : Finds) → queue_of g ≡ queue_of f → rows_of g ≡ rows_of f →
+    ((o : ℕ) → Mem o (order_of g) → Mem o (reads_of f)) → InTurn c b (order_of g) → pass c b (order_of g) ≡ settled c b (reads_of f) → SettledBy c b g
+settled_by c b f g queue rows among turn settles =
+    let reads : reads_of f ≡ reads_of g = sym (λ i. take (length (rows i)) (queue i)) in
+    record { among = λ o m. subst (Mem o) reads (among o m); turn = turn; settles = settles ∙ ap (settled c b) reads }

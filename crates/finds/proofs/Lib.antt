@@ -12,3 +12,4 @@ pub mod InBook
 pub mod Counted
 pub mod Landed
 pub mod Related
+pub mod Counts

@@ -11,6 +11,8 @@ use Rattle.unfolding.specs.Lists.{Mem}
 use Rattle.life.specs.Steps.{Book}
 use Rattle.life.proofs.Lists.{is_none_if, same_some}
 use Rattle.room.specs.Added.{columns_added, new_by, with_columns}
+use Rattle.room.specs.Added as added
+use Rattle.room.proofs.Holding.{Told}
 use Rattle.room.specs.Sizes.{Sizes, first_full, sizes_of, text_bytes}
 use Rattle.room.specs.Tables.{Tables, extended, look_up, no_tables}
 use Rattle.room.proofs.Extended.{extended_assoc, extended_none}
@@ -151,3 +153,9 @@ module _ (c : Catalog) (laws : Laws c) (h : Held) (related : RelatedBy c h) (ask
       ap (λ (z : Sizes). sum_of z (sizes_of (columns_added c t asked))) (sym s.sizes) ∙ sym (sizes_with t (columns_added c t asked)) in
       let fits = subst (λ (z : Sizes). Fits z h.capacity) taken (fits_then h.capacity h.taken (sizes_of (columns_added c t asked)) room) in
       subst (λ (l : List FoundColumn). Stands (each column_kept h l) (with_columns c t asked)) (sym same) (columns_kept (columns_found c asked) h t s found_agree fits)
+
+-- tables of a life whose columns are the catalog's have their relations' tables from it
+pub related_by : (c : Catalog) → Laws c → (h : Held) (t : Tables) → Stands h t → added.Held t → Told c t → RelatedBy c h
+related_by c laws h t s held told r a k e table there =
+    let x = (held.related r table).0 (ap (λ (g : ℕ → Option Name). g r) s.relations ∙ there) in
+    sym x.3 ∙ laws.one_table r x.0 a x.1 k (told (r, x.0) x.1 x.2) e

@@ -8,9 +8,9 @@ use Rattle.std.proofs.lemmas.Bool.{cond-true}
 use Rattle.std.proofs.lemmas.List.{get_or-take, length-map, map-append}
 use Rattle.std.proofs.lemmas.Simd.{map-map}
 use Rattle.std.proofs.lemmas.Option.{slice_get-get_or, slice_get-map}
+use Rattle.type_info.specs.declared.oid.Oid.{Oid}
 use Rattle.catalog.specs.Catalog.{Catalog, CatalogRow, Laws}
 use Rattle.catalog.specs.Shape.{Name, Shape, formed, shape}
-use Rattle.type_info.specs.declared.oid.Oid.{Oid}
 use Rattle.unfolding.specs.Lists.{Distinct, Mem}
 use Rattle.unfolding.specs.Unfolding.{Tree, Trees, built, built_in, node}
 use Rattle.unfolding.proofs.Unfolding.{formed-row}

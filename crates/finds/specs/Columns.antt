@@ -1,11 +1,14 @@
 -- What a column round found, how much of it a book does not hold, and what a book holds once it is kept.
 -- Assumes nothing.
-use Rattle.std.specs.Prelude.{◌≡◌, ℕ, Bool, ◌||◌, List, [], ◌∷◌, ◌++◌, map, ℤ, if◌then◌else◌, is_some, Some}
+use Rattle.std.specs.Prelude.{◌≡◌, ℕ, Bool, true, false, ◌||◌, List, [], ◌∷◌, ◌++◌, map, nat_eq, ℤ, if◌then◌else◌, is_some, Some}
+use Rattle.type_info.specs.declared.oid.Oid.{Oid}
 use Rattle.catalog.specs.Catalog.{Catalog, CatalogColumn}
 use Rattle.catalog.specs.Meaning.{column_meaning}
 use Rattle.catalog.specs.declared.values.Column.{Column}
-use Rattle.keys.specs.Senses.{Pair, pair_of}
+use Rattle.indexes.specs.Known.{Gained}
+use Rattle.keys.specs.Senses.{Pair, oid_of, pair_of}
 use Rattle.keys.specs.declared.kinds.Attribute.{Attribute}
+use Rattle.slots.specs.Slots.{Entry}
 use Rattle.life.specs.Lists.{is_in}
 use Rattle.room.specs.Added.{with_values}
 use Rattle.room.specs.Sizes.{Sizes}
@@ -31,6 +34,24 @@ RelatedBy c h = (r : ℕ) (a : ℤ) (k : CatalogColumn) → c.columns r a ≡ So
 abbrev pub column_kept : Held → FoundColumn → Held
 column_kept h x = if adds_column h x.0 x.1 then with_column h x.0 x.1 else h
 
+-- what a column takes where it is held or not, and its relation is held or counted already or not
+abbrev pub column_size : Bool → Bool → CatalogColumn → Sizes
+column_size true related k = no_sizes
+column_size false true k = size_of_column_name k.column
+column_size false false k = sum_of (size_of_column_name k.column) (size_of_relation k.table)
+
+-- which relations are counted then
+abbrev pub also_counted : Bool → Bool → List ℕ → ℕ → List ℕ
+also_counted true related rs r = rs
+also_counted false true rs r = rs
+also_counted false false rs r = rs ++ r ∷ []
+
+-- and what a table of these becomes
+abbrev pub CountedIn : Bool → Bool → List (Entry Oid ℕ) → ℕ → List (Entry Oid ℕ) → Type 0
+CountedIn true related seen r now = now ≡ seen
+CountedIn false true seen r now = now ≡ seen
+CountedIn false false seen r now = Gained nat_eq oid_of seen r 0 now
+
 -- what is counted so far, and which relations
 pub record Counted : Type 0 where
   pub sizes : Sizes
@@ -39,17 +60,11 @@ pub record Counted : Type 0 where
 abbrev pub nothing_counted : Counted
 nothing_counted = record { sizes = no_sizes; relations = [] }
 
--- a relation is counted at the first of its columns, unless its table is held
-abbrev pub is_related : Held → Counted → ℕ → Bool
-is_related h s r = is_some (h.relations r) || is_in r s.relations
-
-abbrev pub with_new_column : Held → Counted → FoundColumn → Counted
-with_new_column h s x =
-    if is_related h s x.0.0 then record s { sizes = sum_of s.sizes (size_of_column_name x.1.column) }
-    else record { sizes = sum_of s.sizes (sum_of (size_of_column_name x.1.column) (size_of_relation x.1.table)); relations = s.relations ++ x.0.0 ∷ [] }
+abbrev pub counted_so : Bool → Bool → Counted → FoundColumn → Counted
+counted_so held related s x = record { sizes = sum_of s.sizes (column_size held related x.1); relations = also_counted held related s.relations x.0.0 }
 
 abbrev pub column_counted : Held → Counted → FoundColumn → Counted
-column_counted h s x = if is_some (h.columns x.0) then s else with_new_column h s x
+column_counted h s x = counted_so (is_some (h.columns x.0)) (is_some (h.relations x.0.0) || is_in x.0.0 s.relations) s x
 
 abbrev pub counted_from : Held → Counted → List FoundColumn → Counted
 counted_from h s [] = s

@@ -21,7 +21,7 @@ use book::tables::Book;
 use catalog::row::Row;
 use type_info::oid::Oid;
 
-fn plus(sizes: Sizes, more: Sizes) -> Sizes
+pub(crate) fn plus(sizes: Sizes, more: Sizes) -> Sizes
     requires sizes { FewOf 4294967296 (sizes_told sizes) }
     requires more { FewOf 4294967296 (sizes_told more) }
     ensures { sizes_told result ≡ sum_of (sizes_told sizes) (sizes_told more) }
