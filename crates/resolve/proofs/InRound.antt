@@ -1,6 +1,6 @@
 -- The rows of a round, one after the other.
 -- Assumes nothing.
-use Rattle.std.proofs.Common.{◌≡◌, ℕ, suc, ◌+◌, ◌-◌, ◌<◌, ◌≤◌, Bool, List, [], ◌∷◌, ◌++◌, length, map, take, drop, get_or, sym, refl, ap, ◌∙◌, arith, append_assoc, append-nil, length-append}
+use Rattle.std.proofs.Common.{◌≡◌, ℕ, suc, ◌+◌, ◌-◌, ◌<◌, ◌≤◌, Bool, List, [], ◌∷◌, ◌++◌, length, map, take, drop, get_or, sym, ap, ◌∙◌, arith, append_assoc, append-nil, length-append}
 use Rattle.std.proofs.lemmas.List.{drop_all, drop_more, get_or_append_left, length-map, length_push}
 use Rattle.catalog.specs.Catalog.{Catalog}
 use Rattle.catalog.specs.Meaning.{row_told}
@@ -33,9 +33,6 @@ pub record InRound (c : Catalog) (skip : ℕ → Bool) (most : ℕ) (f g : Finds
   pub within : length (rows_of g) ≤ length (queue_of f)
 
 module _ (c : Catalog) (skip : ℕ → Bool) (most : ℕ) (f : Finds) where
-  pub round_begun : InRound c skip most f f
-  round_begun = record { asked = refl; queue = refl; rows = refl; behind = []; kept = sym (append-nil (queue_of f)); within = rows_queued f }
-
   module _ (g : Finds) (so : InRound c skip most f g) where
     pub goes_on : length (rows_of g) < length (queue_of f) → length (rows_of g) < length (queue_of g)
     goes_on more = omega (arith, more, ap length so.kept, length-append (queue_of f) so.behind)

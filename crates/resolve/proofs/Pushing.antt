@@ -1,6 +1,6 @@
 -- OIDs pushed one after the other.
 -- Assumes nothing.
-use Rattle.std.proofs.Common.{◌≡◌, ℕ, ◌≤◌, Bool, List, [], ◌∷◌, length, sym, refl, ap, ◌∙◌, arith}
+use Rattle.std.proofs.Common.{◌≡◌, ℕ, ◌≤◌, Bool, List, [], ◌∷◌, length, sym, ap, ◌∙◌, arith}
 use Rattle.std.proofs.lemmas.List.{length-map}
 use Rattle.keys.specs.Senses.{oid_of}
 use Rattle.finds.specs.declared.tables.Finds.{Finds}
@@ -20,9 +20,6 @@ pub record Pushing (skip : ℕ → Bool) (all rest : List ℕ) (f g : Finds) : T
   pub reads : reads_of g ≡ reads_of f
 
 module _ (skip : ℕ → Bool) (all : List ℕ) (f : Finds) where
-  pub pushing_none : Pushing skip all all f f
-  pushing_none = record { queue = refl; rows = refl; order = refl; reads = refl }
-
   pub pushing_more :
       (rest : List ℕ) (o : ℕ) (later : List ℕ) (g h : Finds) → rest ≡ o ∷ later → Pushing skip all rest f g → queue_of h ≡ pushed skip (queue_of g) o →
       rows_of h ≡ rows_of g → order_of h ≡ order_of g → reads_of h ≡ reads_of g → Pushing skip all later f h

@@ -1,7 +1,7 @@
 -- The walk, round by round.
 -- Assumes nothing.
 use Rattle.std.proofs.Common.{◌≡◌, ℕ, suc, ◌+◌, ◌-◌, ◌<◌, ◌≤◌, Bool, List, [], ◌++◌, length, map, take, drop, MatchResult, Ok, Err, Result, sym, refl, ap, ◌∙◌, subst, arith, length-append}
-use Rattle.std.proofs.lemmas.List.{drop_all, drop_at, length-drop, length-map, map-append, take-append-drop, take_all, take_at}
+use Rattle.std.proofs.lemmas.List.{drop_all, drop_at, length-drop, length-map, map-append, take-append-drop, take_at}
 use Rattle.catalog.specs.Catalog.{Catalog, Opened, Shut, Spent, spent}
 use Rattle.catalog.specs.Meaning.{row_told}
 use Rattle.catalog.specs.declared.faults.CatalogFault.TheVariants.{NoAllowance}
@@ -14,7 +14,7 @@ use Rattle.resolve.specs.declared.faults.FillFault.{FillFault}
 use Rattle.resolve.specs.declared.faults.FillFault.TheVariants.{Catalog as OfCatalog}
 use Rattle.resolve.specs.Faults.{refusal_of}
 use Rattle.resolve.specs.Rounds.{Refused, RoundRead, RoundRefused, Turned, with_all}
-use Rattle.resolve.specs.Walks.{left_of, stopped_told, waiting_of, walk_at}
+use Rattle.resolve.specs.Walks.{left_of, waiting_of, walk_at}
 use Rattle.resolve.proofs.Cut.{longer, with_behind}
 use Rattle.resolve.proofs.InRound.{rows_queued}
 use Rattle.resolve.proofs.Pushing.{few_queued}
@@ -152,64 +152,21 @@ pub record Walking (c d : Catalog) (skip : ℕ → Bool) (most first rounds : �
   pub cost : Spent (rounds - first) c d
   pub read : ReadFrom c f → ReadFrom c g
 
-spent_more : (c d e : Catalog) (n m k : ℕ) → k ≡ n + m → Spent n c d → Spent m d e → Spent k c e
-spent_more c d e n m k sum a b =
-    let some : d.allowance ≡ c.allowance - n = ap (λ (x : Catalog). x.allowance) a.after in
-    let left : d.allowance - m ≡ c.allowance - k = omega (arith, some, sum, a.enough, b.enough) in
-    record {
-      enough = omega (arith, some, sum, a.enough, b.enough);
-      after = b.after ∙ ap (λ (x : Catalog). spent x (d.allowance - m)) a.after ∙ ap (spent c) left;
-    }
+module _ (c d : Catalog) (skip : ℕ → Bool) (most first rounds : ℕ) (f g : Finds) (so : Walking c d skip most first rounds f g) where
+  pub walking_done : length (queue_of g) ≤ length (rows_of g) → ended rounds (reads_of g) ≡ walk_at c skip most first f
+  walking_done over = sym
+      (so.on
+      ∙ ap (λ now. walk d skip (64 - rounds) rounds (left_of most g) d.allowance now (reads_of g)) (drop_all (length (rows_of g)) (queue_of g) over)
+      ∙ turn_none d skip (64 - rounds) rounds (left_of most g) d.allowance (reads_of g))
 
-one_spent : (c d : Catalog) → Opened c d → Spent 1 c d
-one_spent c d cost = record { enough = cost.some; after = cost.after }
-
-module _ (skip : ℕ → Bool) (most first : ℕ) (c : Catalog) (f : Finds) where
-  pub walking_none : first ≤ 64 → Walking c c skip most first first f f
-  walking_none few =
-      let none : first - first ≡ 0 = omega arith in
-      let same : c.allowance ≡ c.allowance - (first - first) = omega arith in
-      record { on = refl; since = omega arith; few = few; cost = record { enough = omega arith; after = ap (spent c) same }; read = λ from. from }
-
-  module _ (d : Catalog) (rounds : ℕ) (g : Finds) (so : Walking c d skip most first rounds f g) where
-    pub walking_more : (e : Catalog) (h : Finds) → rounds < 64 → Turned d e skip most rounds g h → Walking c e skip most first (rounds + 1) f h
-    walking_more e h few turned = record {
-      on = so.on ∙ turned.on;
-      since = omega (arith, so.since);
-      few = omega arith;
-      cost = spent_more c d e (rounds - first) 1 (rounds + 1 - first) (omega (arith, so.since)) so.cost (one_spent d e turned.cost);
-      read = λ from. subst (λ (x : Catalog). ReadFrom x g → ReadFrom x h) so.cost.after turned.read (so.read from);
-    }
-
-    pub walking_done : length (queue_of g) ≤ length (rows_of g) → (ended rounds (reads_of g) ≡ walk_at c skip most first f) × (reads_of g ≡ queue_of g)
-    walking_done over = (
+  pub walking_long : rounds ≡ 64 → length (rows_of g) < length (queue_of g) → stopped 4 65 64 ≡ walk_at c skip most first f
+  walking_long all waits =
+      let none : 64 - rounds ≡ 0 = omega (arith, all) in
       sym
-          (so.on
-          ∙ ap (λ now. walk d skip (64 - rounds) rounds (left_of most g) d.allowance now (reads_of g)) (drop_all (length (rows_of g)) (queue_of g) over)
-          ∙ turn_none d skip (64 - rounds) rounds (left_of most g) d.allowance (reads_of g)),
-      take_all (length (rows_of g)) (queue_of g) over,
-    )
-
-    pub walking_long : rounds ≡ 64 → length (rows_of g) < length (queue_of g) → (stopped 4 65 64 ≡ walk_at c skip most first f) × (first ≤ 64) × Spent (64 - first) c d
-    walking_long all waits =
-        let none : 64 - rounds ≡ 0 = omega (arith, all) in (
-          sym
-              (so.on
-              ∙ ap (λ n. walk d skip n rounds (left_of most g) d.allowance (waiting_of g) (reads_of g)) none
-              ∙ turn_4 d skip rounds (left_of most g) (waiting_of g) (reads_of g) (omega (arith, waits, waiting_long g)) d.allowance
-              ∙ ap (λ n. stopped 4 (suc n) n) all),
-          omega (arith, all, so.since),
-          subst (λ n. Spent (n - first) c d) all so.cost,
-        )
-
-    pub walking_refused : (e : Catalog) (fault : FillFault) → Refused d e skip most rounds g fault →
-        let told = (refusal_of fault).rounds in (stopped_told (refusal_of fault) ≡ walk_at c skip most first f) × (first ≤ told) × Spent (told - first) c e
-    walking_refused e fault refused =
-        let told = (refusal_of fault).rounds in (
-          sym (so.on ∙ refused.stops),
-          omega (arith, so.since, refused.since),
-          spent_more c d e (rounds - first) (told - rounds) (told - first) (omega (arith, so.since, refused.since)) so.cost refused.cost,
-        )
+      (so.on
+      ∙ ap (λ n. walk d skip n rounds (left_of most g) d.allowance (waiting_of g) (reads_of g)) none
+      ∙ turn_4 d skip rounds (left_of most g) (waiting_of g) (reads_of g) (omega (arith, waits, waiting_long g)) d.allowance
+      ∙ ap (λ n. stopped 4 (suc n) n) all)
 
 -- the walk from the first round on
 pub walk_begun : (c : Catalog) (b : Descriptors) (os : List ℕ) (f : Finds) → queue_of f ≡ with_all (answered b) [] os → rows_of f ≡ [] → walk_at c (answered b) 256 0 f ≡ walk_from c b os

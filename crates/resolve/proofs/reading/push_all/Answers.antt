@@ -1,11 +1,8 @@
 use Rattle.std.proofs.Common.{◌+◌, drop, get_or}
 use Rattle.std.proofs.lemmas.List.{drop_all, drop_more}
 use Rattle.resolve.specs.Walks.{known_to}
-use Rattle.resolve.proofs.Pushing.{pushing_done, pushing_more, pushing_none}
+use Rattle.resolve.proofs.Pushing.{pushing_done, pushing_more}
 use Rattle.resolve.proofs.reading.push_all.Goals as goal
-
-pub loop-oid-init : goal.loop-oid-init
-loop-oid-init c = pushing_none (known_to c.args.book.now) c.args.oids.now c.args.finds.now
 
 pub loop-oid-preserved : goal.loop-oid-preserved
 loop-oid-preserved c =
@@ -20,12 +17,3 @@ returns-clause-queue c =
     pushing_done (known_to c.args.book.now) c.args.oids.now c.args.finds.now (drop c.loop-oid.oid-index c.args.oids.now) c.loop-oid.finds
     (drop_all c.loop-oid.oid-index c.args.oids.now c.loop-oid-test.false)
     c.loop-oid.invariant
-
-pub returns-clause-rows : goal.returns-clause-rows
-returns-clause-rows c = c.loop-oid.invariant.rows
-
-pub returns-clause-order : goal.returns-clause-order
-returns-clause-order c = c.loop-oid.invariant.order
-
-pub returns-clause-reads : goal.returns-clause-reads
-returns-clause-reads c = c.loop-oid.invariant.reads

@@ -2,11 +2,8 @@ use Rattle.std.proofs.Common.{◌<◌, length, arith}
 use Rattle.std.proofs.lemmas.Result.{err_from_is_err_and}
 use Rattle.finds.specs.Finds.{queue_of, rows_of}
 use Rattle.resolve.specs.Walks.{known_to}
-use Rattle.resolve.proofs.InRound.{goes_on, round_begun, round_refused, round_through, row_nearer, row_through}
+use Rattle.resolve.proofs.InRound.{goes_on, round_refused, round_through, row_nearer, row_through}
 use Rattle.resolve.proofs.reading.read_rows.Goals as goal
-
-pub loop-finds-init : goal.loop-finds-init
-loop-finds-init g c = round_begun (g.C.TypeCatalog.meaning c.args.catalog.now) (known_to c.args.book.now) c.args.most c.args.finds.now
 
 pub read_row-requires-clause-waits : goal.read_row-requires-clause-waits
 read_row-requires-clause-waits g c =

@@ -5,10 +5,10 @@ use Rattle.resolve.proofs.rounds.walk_on.Goals as goal
 
 pub returns-then-rounds-eq-MOST_ROUNDS-clause-outcome : goal.returns-then-rounds-eq-MOST_ROUNDS-clause-outcome
 returns-then-rounds-eq-MOST_ROUNDS-clause-outcome g c =
-    (walking_long (known_to c.args.book.now) c.args.most c.args.opened (g.C.TypeCatalog.meaning c.args.catalog.now) c.args.finds.now (g.C.TypeCatalog.meaning c.loop-most.catalog) c.loop-most.rounds c.loop-most.finds
-    c.loop-most.invariant c.if-rounds-eq-MOST_ROUNDS.true (omega (arith, c.row_count.ensures, c.oid_count.ensures, c.loop-most-test.true))).0
+    walking_long (g.C.TypeCatalog.meaning c.args.catalog.now) (g.C.TypeCatalog.meaning c.loop-most.catalog) (known_to c.args.book.now) c.args.most c.args.opened c.loop-most.rounds c.args.finds.now c.loop-most.finds
+    c.loop-most.invariant c.if-rounds-eq-MOST_ROUNDS.true (omega (arith, c.row_count.ensures, c.oid_count.ensures, c.loop-most-test.true))
 
 pub returns-clause-outcome : goal.returns-clause-outcome
 returns-clause-outcome g c =
-    (walking_done (known_to c.args.book.now) c.args.most c.args.opened (g.C.TypeCatalog.meaning c.args.catalog.now) c.args.finds.now (g.C.TypeCatalog.meaning c.loop-most.catalog) c.loop-most.rounds c.loop-most.finds
-    c.loop-most.invariant (omega (arith, c.row_count.ensures, c.oid_count.ensures, c.loop-most-test.false))).0
+    walking_done (g.C.TypeCatalog.meaning c.args.catalog.now) (g.C.TypeCatalog.meaning c.loop-most.catalog) (known_to c.args.book.now) c.args.most c.args.opened c.loop-most.rounds c.args.finds.now c.loop-most.finds
+    c.loop-most.invariant (omega (arith, c.row_count.ensures, c.oid_count.ensures, c.loop-most-test.false))
