@@ -29,7 +29,7 @@ use Rattle.finds.proofs.Grown.{row_within}
 use Rattle.finds.proofs.Passing.{from_same, ready_from}
 
 -- what stands at a place is a member, and each member stands at one
-mem_at : (os : List ℕ) (i : ℕ) → i < length os → Mem (get_or os i 0) os
+pub mem_at : (os : List ℕ) (i : ℕ) → i < length os → Mem (get_or os i 0) os
 mem_at [] i l = absurd (omega arith)
 mem_at (o ∷ os) zero l = inl refl
 mem_at (o ∷ os) (suc i) l = inr (mem_at os i (omega arith))

@@ -3,7 +3,7 @@
 use Rattle.std.proofs.Common.{◌≡◌, ℕ, suc, ◌<◌, ◌≤◌, Bool, true, false, cond, ◌||◌, List, [], ◌∷◌, ◌++◌, length, map, take, get_or, slice_get, nat_eq, is_some, Some, None, Option, sym, refl, ap, ◌∙◌, subst, ⊎_elim, arith, length-append}
 use Rattle.std.specs.List.{list_all}
 use Rattle.std.proofs.Math.Seq.{take-suc}
-use Rattle.std.proofs.lemmas.Bool.{cases_lt}
+use Rattle.std.proofs.lemmas.Bool.{cases_Bool, cases_lt, cond-false, cond-true}
 use Rattle.std.proofs.lemmas.Bool.Decides.{Decides-eqb}
 use Rattle.std.proofs.lemmas.List.{get_or_append_left, get_or_past, map-append}
 use Rattle.std.proofs.lemmas.Option.{slice_get-get_or}
@@ -12,11 +12,12 @@ use Rattle.catalog.specs.declared.row.Row.{Row}
 use Rattle.indexes.specs.Known.{Gained, by_oid}
 use Rattle.keys.specs.Senses.{oid_of}
 use Rattle.life.specs.Lists.{is_in}
-use Rattle.life.proofs.Lists.{distinct_append, mem_in, not_both, same_truth}
+use Rattle.life.proofs.Lists.{distinct_append, mem_in, not_both, same_some, same_truth}
 use Rattle.slots.specs.Slots.{Entry}
 use Rattle.type_info.specs.declared.oid.Oid.{Oid}
 use Rattle.unfolding.specs.Lists.{Distinct, Mem}
 use Rattle.book.proofs.Growth.{map_kept}
+use Rattle.book.proofs.Trees.{slice_get-append, slice_get-here}
 use Rattle.finds.specs.Tables.{at_places, has_row}
 
 or_swap : (x y z : Bool) → (x || (y || z)) ≡ (y || (x || z))
@@ -43,6 +44,19 @@ leads_on index os p v after led gained o =
     ap is_some (gained.holds o) ∙ some_else (nat_eq p o) v (by_oid index o)
     ∙ (λ i. same_way o p i || led o i)
     ∙ sym (in_one_more o p os)
+
+-- and to its place
+pub places_on :
+    (index : List (Entry Oid ℕ)) (os : List ℕ) (p v : ℕ) (after : List (Entry Oid ℕ)) → v ≡ length os → ((o i : ℕ) → by_oid index o ≡ Some i → slice_get os i ≡ Some o) →
+    Gained nat_eq oid_of index p v after → (o i : ℕ) → by_oid after o ≡ Some i → slice_get (os ++ p ∷ []) i ≡ Some o
+places_on index os p v after last led gained o i e =
+    let told : cond (nat_eq p o) (Some v) (by_oid index o) ≡ Some i = sym (gained.holds o) ∙ e in
+    ⊎_elim
+    (λ y.
+    let here : v ≡ i = same_some (cond-true (nat_eq p o) (Some v) (by_oid index o) y) told in
+    ap (slice_get (os ++ p ∷ [])) (sym here ∙ last) ∙ slice_get-here os p [] ∙ ap (λ q. Some q) ((Decides-eqb p o).0 y))
+    (λ n. slice_get-append os (p ∷ []) i o (led o i (sym (cond-false (nat_eq p o) (Some v) (by_oid index o) n) ∙ told)))
+    (cases_Bool (nat_eq p o))
 
 pub once_more : (os : List ℕ) (p : ℕ) → Distinct os → is_in p os ≡ false → Distinct (os ++ p ∷ [])
 once_more os p once new =

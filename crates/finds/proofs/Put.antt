@@ -25,7 +25,7 @@ use Rattle.finds.specs.declared.tables.Finds.{Finds}
 use Rattle.finds.specs.Finds.{ReadFrom, order_of, queue_of, rows_of}
 use Rattle.finds.specs.Tables.{Lent, Ordered, Queued, at_places, has_row, standing, turns}
 use Rattle.finds.proofs.Few.{few_places}
-use Rattle.finds.proofs.Grown.{leads_on, once_more, places_stay, read_on, row_stays}
+use Rattle.finds.proofs.Grown.{leads_on, once_more, places_on, places_stay, read_on, row_stays}
 
 -- tables as a step keeps them
 pub record Keeps (queue : LentItems Oid) (index : List (Entry Oid ℕ)) (rows : LentItems (Option Row)) (order : LentItems ℕ) (settled : List (Entry Oid ℕ)) : Type 0 where
@@ -44,7 +44,7 @@ module _ (f : Finds) where
   few_oids = omega (arith, f.lent.queue_lent)
 
   -- an OID behind the others
-  module _ (p : Oid) (place : ℕ) (room : length f.queue.items < 257) (unbuilt : built_in p.0 ≡ false) (new : is_some (by_oid f.index p.0) ≡ false)
+  module _ (p : Oid) (place : ℕ) (last : place ≡ length f.queue.items) (room : length f.queue.items < 257) (unbuilt : built_in p.0 ≡ false) (new : is_some (by_oid f.index p.0) ≡ false)
       (queue : LentItems Oid) (r : Option (Unit {0})) (pushed : Pushed f.queue p r queue)
       (index : List (Entry Oid ℕ)) (s : Option ℕ) (interned : Interned (by_oid f.index p.0) place (HasEmpty f.index) (Gained nat_eq oid_of f.index p.0 place index) (index ≡ f.index) s) where
     behind : (queue.items ≡ f.queue.items ++ p ∷ []) × (slots_lent queue ≡ slots_lent f.queue)
@@ -77,6 +77,7 @@ module _ (f : Finds) where
       once = subst Distinct (sym queue_then) (once_more oids p.0 f.queued.once (sym (f.queued.indexed p.0) ∙ new));
       none_built_in = ap (list_all (λ o. not (built_in o))) queue_then ∙ all_one_more (λ o. not (built_in o)) oids p.0 f.queued.none_built_in (ap not unbuilt);
       indexed = λ o. leads_on f.index oids p.0 place index f.queued.indexed gained o ∙ ap (is_in o) (sym queue_then);
+      leads = λ o i e. ap (λ os. slice_get os i) queue_then ∙ places_on f.index oids p.0 place index (last ∙ sym oids_long) f.queued.leads gained o i e;
       counted = gained.count ∙ ap (λ n. n + 1) f.queued.counted ∙ sym longer;
     }
 

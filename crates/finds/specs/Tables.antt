@@ -1,6 +1,6 @@
 -- What the memory of a step holds, and what keeps it.
 -- Assumes nothing.
-use Rattle.std.specs.Prelude.{◌≡◌, ℕ, ◌≤◌, Bool, true, not, List, [], ◌∷◌, length, map, slice_index, slice_index_or, is_some, None, Option}
+use Rattle.std.specs.Prelude.{◌≡◌, ℕ, ◌≤◌, Bool, true, not, List, [], ◌∷◌, length, map, slice_get, slice_index, slice_index_or, is_some, Some, None, Option}
 use Rattle.std.specs.List.{list_all}
 use Rattle.catalog.specs.declared.row.Row.{Row}
 use Rattle.indexes.specs.Known.{by_oid}
@@ -39,11 +39,12 @@ pub record Lent (queue : LentItems Oid) (index : List (Entry Oid ℕ)) (rows : L
   pub order_lent : slots_lent order ≡ 256
   pub settled_lent : length settled ≡ 512
 
--- each OID stands once, none of them is built in, and the index leads to exactly these
+-- each OID stands once, none of them is built in, and the index leads to exactly these, and to their places
 pub record Queued (queue : LentItems Oid) (index : List (Entry Oid ℕ)) : Type 0 where
   pub once : Distinct (standing queue)
   pub none_built_in : list_all (λ o. not (built_in o)) (standing queue) ≡ true
   pub indexed : (o : ℕ) → is_some (by_oid index o) ≡ is_in o (standing queue)
+  pub leads : (o place : ℕ) → by_oid index o ≡ Some place → slice_get (standing queue) place ≡ Some o
   pub counted : filled index ≡ length queue.items
 
 -- the order has places of rows that are there, each once, and the second index leads to exactly the OIDs at these

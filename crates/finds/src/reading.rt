@@ -1,10 +1,11 @@
 // How a step comes to its rows: OIDs go into the queue, and their rows are read in turn.
-ghost use Rattle.std.specs.Prelude.{◌≡◌, ℕ, ◌∷◌, ◌++◌, [], Some, if◌then◌else◌, is_some, length, slice_get};
+ghost use Rattle.std.specs.Prelude.{◌≡◌, ℕ, ◌∷◌, ◌++◌, [], MatchOption, Some, false, if◌then◌else◌, is_some, length, slice_get};
 ghost use Rattle.book.specs.Book.{held_of};
 ghost use Rattle.book.specs.Held.{book_held};
 ghost use Rattle.catalog.specs.Catalog.{Catalog};
 ghost use Rattle.catalog.specs.Meaning.{oid_told, row_told};
 ghost use Rattle.finds.specs.Finds.{ReadFrom, order_of, pushed, queue_of, reads_of, rows_of, waits};
+ghost use Rattle.life.specs.Lists.{is_in};
 ghost use Rattle.life.specs.Walk.{answered};
 
 use crate::memory::MOST_OIDS;
@@ -32,6 +33,14 @@ impl<'a> Finds<'a> {
         ensures { oid_told result ≡ slice_get (queue_of self.now) place }
     {
         self.queue.as_slice().get(place).copied()
+    }
+
+    // The place of an OID that stands.
+    pub fn place_of(&self, oid: Oid) -> Option<usize>
+        ensures { MatchOption result (is_in oid.0 (queue_of self.now) ≡ false) (λ place. slice_get (queue_of self.now) place ≡ Some oid.0) }
+    {
+        let place = self.index.find(oid)?;
+        Some(place as usize)
     }
 
     // Puts the OID behind those that stand, unless the book knows it, it stands already or there is no place for it.

@@ -94,7 +94,7 @@ module _ (c : Catalog) (t : Tables) (call : Call) (reads apart : List ℕ) where
   read_found : (o : ℕ) → look_up nat_eq found o ≡ cond (is_in o reads) (d o) None
   read_found o = look_values nat_eq Decides-eqb d o reads
 
-  described_so : (o : ℕ) → look_up nat_eq all.descriptors o ≡ d o
+  pub described_so : (o : ℕ) → look_up nat_eq all.descriptors o ≡ d o
   described_so o =
       look_extended nat_eq Decides-eqb t.descriptors found o
       ∙ ap (option_or (b.descriptors o)) (read_found o)

@@ -41,7 +41,7 @@ nothing_more t = λ i. record {
 }
 
 -- a refusal within the rounds keeps nothing, and is not 8
-bare : (n p r : ℕ) → Within n p r → keeps_finds (refused n p false r) ≡ false
+pub bare : (n p r : ℕ) → Within n p r → keeps_finds (refused n p false r) ≡ false
 bare n p r = ⊎_elim (λ x. at x.0) (⊎_elim (λ x. at x.0) (⊎_elim at at))
   where
     at : {m : ℕ} → n ≡ m → keeps_finds (refused n p false r) ≡ keeps_finds (refused m p false r)

@@ -12,7 +12,7 @@ put : (c : After-intern) → let f = c.args.self.now in Keeps c.push.new.self c.
 put c =
     let f = c.args.self.now in
     let oid = c.args.oid in
-    oid_put f oid c.len-place.result
+    oid_put f oid c.len-place.result c.len-place.ensures
     (omega (arith, few_oids f, c.len-place.ensures, c.if-place-eq-MOST_OIDS.false))
     (unanswered (book_held (held_of c.args.book.now)).descriptors oid.0 (sym c.knows.ensures ∙ c.if-knows.false)).0
     (sym (c.is_some.ensures ∙ ap is_some c.find.ensures) ∙ c.if-is_some.false)
