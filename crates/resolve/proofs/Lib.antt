@@ -4,3 +4,5 @@ pub mod Rows
 pub mod InRound
 pub mod Turns
 pub mod Walking
+pub mod Left
+pub mod Filled

@@ -4,6 +4,7 @@ ghost use Rattle.life.specs.Faults.{of_layer_fill as fill_layer};
 ghost use Rattle.resolve.specs.Faults.{fill_text, refusal_of};
 ghost use Rattle.resolve.specs.declared.faults.FillFault.TheVariants.{Catalog as OfCatalog};
 
+use book::sizes::BookTable;
 use catalog::faults::{CatalogFault, Layer, Told};
 use std::error::Error;
 use std::fmt;
@@ -21,6 +22,10 @@ pub enum FillFault {
     Malformed { oid: Oid, round: u8 },
     // In this round this OID waits, and no more rows may be read.
     TooManyRows { oid: Oid, round: u8 },
+    // After these rounds this table, the first of them, has no room for what was found.
+    Full { table: BookTable, rounds: u8 },
+    // After these rounds the OID at this place of the list has a row and no unfolding.
+    Unresolved { place: u32, rounds: u8 },
 }
 
 impl From<CatalogFault> for FillFault {
@@ -40,6 +45,8 @@ impl FillFault {
             FillFault::TooManyRounds => of_layer_fill(4, u32::from(MOST_ROUNDS) + 1, MOST_ROUNDS),
             FillFault::Malformed { oid, round } => of_layer_fill(6, oid.0, round),
             FillFault::TooManyRows { oid, round } => of_layer_fill(7, oid.0, round),
+            FillFault::Full { table, rounds } => of_layer_fill(8, table as u32, rounds),
+            FillFault::Unresolved { place, rounds } => of_layer_fill(9, place, rounds),
         }
     }
 }
@@ -56,6 +63,10 @@ impl fmt::Display for FillFault {
             }
             FillFault::TooManyRows { oid, round: _ } => {
                 write!(f, "too many rows: {} is left", oid.0)
+            }
+            FillFault::Full { table, rounds: _ } => { write!(f, "table {} is full", *table as u32) }
+            FillFault::Unresolved { place, rounds: _ } => {
+                write!(f, "entry {place} has a row and no unfolding")
             }
         }
     }
