@@ -3,7 +3,7 @@ use book::tables::Book;
 use finds::tables::Finds;
 use keys::span::Span;
 use offers::offer::{OfferedAttribute, OfferedRow};
-use resolve::faults::FillFault;
+use faults::fill::FillFault;
 use resolve::filling::fill;
 use row_table::table::RowTable;
 use std::fmt;

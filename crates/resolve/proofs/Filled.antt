@@ -25,8 +25,8 @@ use Rattle.room.proofs.Extended.{extended_none}
 use Rattle.room.proofs.Outcome.{bare}
 use Rattle.book.specs.Held.{Held, book_held}
 use Rattle.book.specs.Stands.{Stands}
-use Rattle.resolve.specs.declared.faults.FillFault.{FillFault}
-use Rattle.resolve.specs.Faults.{refusal_of}
+use Rattle.faults.specs.declared.fill.FillFault.{FillFault}
+use Rattle.faults.specs.Faults.{refusal_of}
 use Rattle.resolve.specs.Fills.{FullAt, ending_told, left_over}
 use Rattle.resolve.specs.Walks.{stopped_told}
 use Rattle.resolve.proofs.Left.{first_left_so, place_in}

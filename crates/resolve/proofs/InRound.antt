@@ -10,7 +10,7 @@ use Rattle.life.specs.Lists.{fresh}
 use Rattle.life.specs.Walk.{all_read, ask, links_in, links_of}
 use Rattle.finds.specs.declared.tables.Finds.{Finds}
 use Rattle.finds.specs.Finds.{queue_of, rows_of}
-use Rattle.resolve.specs.declared.faults.FillFault.{FillFault}
+use Rattle.faults.specs.declared.fill.FillFault.{FillFault}
 use Rattle.resolve.specs.Rounds.{RoundRead, RoundRefused, RowRead, RowRefused, with_all}
 use Rattle.resolve.specs.Walks.{left_of, next_of, waiting_of}
 use Rattle.resolve.proofs.Cut.{with_behind, with_both, with_none}

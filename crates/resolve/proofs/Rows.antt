@@ -12,7 +12,7 @@ use Rattle.life.proofs.Lists.{chosen_true, chosen_false}
 use Rattle.finds.specs.declared.tables.Finds.{Finds}
 use Rattle.finds.specs.Finds.{queue_of, rows_of, waits}
 use Rattle.type_info.specs.declared.oid.Oid.{Oid}
-use Rattle.resolve.specs.declared.faults.FillFault.TheVariants.{Malformed}
+use Rattle.faults.specs.declared.fill.FillFault.TheVariants.{Malformed}
 use Rattle.resolve.specs.Rounds.{RowRead, RowRefused, with_all}
 use Rattle.resolve.specs.Walks.{next_of}
 use Rattle.resolve.proofs.Cut.{with_none}

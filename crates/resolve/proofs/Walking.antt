@@ -10,9 +10,9 @@ use Rattle.life.specs.Rounds.{Descriptors}
 use Rattle.life.specs.Walk.{answered, ask, links_of, ended, stopped, and_then, walk, walk_from}
 use Rattle.finds.specs.declared.tables.Finds.{Finds}
 use Rattle.finds.specs.Finds.{ReadFrom, queue_of, reads_of, rows_of}
-use Rattle.resolve.specs.declared.faults.FillFault.{FillFault}
-use Rattle.resolve.specs.declared.faults.FillFault.TheVariants.{Catalog as OfCatalog}
-use Rattle.resolve.specs.Faults.{refusal_of}
+use Rattle.faults.specs.declared.fill.FillFault.{FillFault}
+use Rattle.faults.specs.declared.fill.FillFault.TheVariants.{Catalog as OfCatalog}
+use Rattle.faults.specs.Faults.{refusal_of}
 use Rattle.resolve.specs.Rounds.{Refused, RoundRead, RoundRefused, Turned, with_all}
 use Rattle.resolve.specs.Walks.{left_of, waiting_of, walk_at}
 use Rattle.resolve.proofs.Cut.{longer, with_behind}

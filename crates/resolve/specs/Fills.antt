@@ -5,8 +5,8 @@ use Rattle.catalog.specs.Catalog.{Catalog}
 use Rattle.life.specs.Faults.{of_layer_fill}
 use Rattle.life.specs.Lists.{is_in}
 use Rattle.life.specs.Steps.{Ending, accepted, refused}
-use Rattle.resolve.specs.declared.faults.FillFault.{FillFault}
-use Rattle.resolve.specs.Faults.{refusal_of}
+use Rattle.faults.specs.declared.fill.FillFault.{FillFault}
+use Rattle.faults.specs.Faults.{refusal_of}
 
 -- an OID that was read, has a row and is not known
 abbrev pub left_over : Catalog → (known : ℕ → Bool) → (reads : List ℕ) → ℕ → Bool

@@ -1,4 +1,3 @@
-pub mod Faults
 pub mod Walks
 pub mod Rounds
 pub mod Fills

@@ -7,8 +7,8 @@ use Rattle.life.specs.Lists.{push_all}
 use Rattle.life.specs.Walk.{all_read, ask, links_in, links_of, malformed}
 use Rattle.finds.specs.declared.tables.Finds.{Finds}
 use Rattle.finds.specs.Finds.{ReadFrom, queue_of, rows_of}
-use Rattle.resolve.specs.declared.faults.FillFault.{FillFault}
-use Rattle.resolve.specs.Faults.{refusal_of}
+use Rattle.faults.specs.declared.fill.FillFault.{FillFault}
+use Rattle.faults.specs.Faults.{refusal_of}
 use Rattle.resolve.specs.Walks.{left_of, next_of, stop_told, stopped_told, waiting_of, walk_at}
 
 -- these OIDs behind the queue, which has 257 places

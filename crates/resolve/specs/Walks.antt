@@ -9,8 +9,8 @@ use Rattle.book.specs.declared.tables.Book.{Book}
 use Rattle.life.specs.Walk.{answered, Asked, stop, Walked, ended, stopped, walk}
 use Rattle.finds.specs.declared.tables.Finds.{Finds}
 use Rattle.finds.specs.Finds.{queue_of, reads_of, rows_of}
-use Rattle.resolve.specs.declared.faults.FillFault.{FillFault}
-use Rattle.resolve.specs.Faults.{refusal_of}
+use Rattle.faults.specs.declared.fill.FillFault.{FillFault}
+use Rattle.faults.specs.Faults.{refusal_of}
 
 -- built in, or described by the book
 abbrev pub known_to : Book → ℕ → Bool

@@ -7,7 +7,7 @@ ghost use Rattle.finds.specs.Finds.{ReadFrom, queue_of, reads_of, rows_of};
 ghost use Rattle.life.specs.Calls.{Call, fill as fill_call};
 ghost use Rattle.life.specs.Lists.{first_place, is_in};
 ghost use Rattle.life.specs.Steps.{keeps_finds};
-ghost use Rattle.resolve.specs.Faults.{refusal_of};
+ghost use Rattle.faults.specs.Faults.{refusal_of};
 ghost use Rattle.resolve.specs.Fills.{FullAt, ending_told, left_over};
 ghost use Rattle.resolve.specs.Walks.{known_to, rounds_told};
 ghost use Rattle.room.specs.Added.{declared_names, types_added, with_types};
@@ -15,15 +15,15 @@ ghost use Rattle.room.specs.Room.{limited, tables_left};
 ghost use Rattle.room.specs.Sizes.{first_full, sizes_of};
 ghost use Rattle.room.specs.Tables.{Tables};
 
-use crate::faults::FillFault;
 use crate::rounds::walk;
 use book::tables::Book;
 use catalog::questions::TypeCatalog;
+use faults::fill::FillFault;
 use finds::tables::Finds;
 use type_info::oid::Oid;
 
 // Settles the rows read, and puts them into the book, unless a table has no room for them.
-fn keep_finds(finds: &mut Finds<'_>, book: &mut Book<'_>, rounds: u8) -> Result<(), FillFault>
+pub fn keep_finds(finds: &mut Finds<'_>, book: &mut Book<'_>, rounds: u8) -> Result<(), FillFault>
     ensures queue { queue_of finds.new ≡ queue_of finds.old }
     ensures rows { rows_of finds.new ≡ rows_of finds.old }
     ensures capacity { (held_of book.new).capacity ≡ (held_of book.old).capacity }
@@ -44,7 +44,7 @@ fn keep_finds(finds: &mut Finds<'_>, book: &mut Book<'_>, rounds: u8) -> Result<
 }
 
 // Whether the OID stands, and its row was read and is there.
-fn has_row(finds: &Finds<'_>, oid: Oid) -> bool
+pub fn has_row(finds: &Finds<'_>, oid: Oid) -> bool
     ensures { (c : Catalog) → ReadFrom c finds.now → reads_of finds.now ≡ queue_of finds.now →
         result ≡ (is_in oid.0 (reads_of finds.now) && is_some (c.rows oid.0)) }
 {
@@ -58,7 +58,7 @@ fn has_row(finds: &Finds<'_>, oid: Oid) -> bool
 }
 
 // Whether the OID has a row and the book does not know it.
-fn is_left(finds: &Finds<'_>, book: &Book<'_>, oid: Oid) -> bool
+pub fn is_left(finds: &Finds<'_>, book: &Book<'_>, oid: Oid) -> bool
     ensures { (c : Catalog) → ReadFrom c finds.now → reads_of finds.now ≡ queue_of finds.now →
         result ≡ left_over c (known_to book.now) (reads_of finds.now) oid.0 }
 {
@@ -66,7 +66,7 @@ fn is_left(finds: &Finds<'_>, book: &Book<'_>, oid: Oid) -> bool
 }
 
 // The place of the first such OID.
-fn first_left(finds: &Finds<'_>, book: &Book<'_>, oids: &[u32]) -> Option<usize>
+pub fn first_left(finds: &Finds<'_>, book: &Book<'_>, oids: &[u32]) -> Option<usize>
     ensures { (c : Catalog) → ReadFrom c finds.now → reads_of finds.now ≡ queue_of finds.now →
         result ≡ first_place (left_over c (known_to book.now) (reads_of finds.now)) 0 oids.now }
 {
@@ -79,7 +79,7 @@ fn first_left(finds: &Finds<'_>, book: &Book<'_>, oids: &[u32]) -> Option<usize>
 }
 
 // A place is told in 32 bits.
-fn told_place(place: usize) -> u32
+pub fn told_place(place: usize) -> u32
     ensures { place < 4294967296 → result ≡ place }
 {
     u32::try_from(place).unwrap_or(u32::MAX)

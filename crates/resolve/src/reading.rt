@@ -5,9 +5,9 @@ ghost use Rattle.keys.specs.Senses.{oid_of};
 ghost use Rattle.resolve.specs.Rounds.{RoundRead, RoundRefused, RowRead, RowRefused, with_all};
 ghost use Rattle.resolve.specs.Walks.{known_to};
 
-use crate::faults::FillFault;
 use book::tables::Book;
 use catalog::questions::TypeCatalog;
+use faults::fill::FillFault;
 use finds::tables::Finds;
 use type_info::oid::Oid;
 

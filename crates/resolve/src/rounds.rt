@@ -9,11 +9,11 @@ ghost use Rattle.life.specs.Walk.{walk_from};
 ghost use Rattle.resolve.specs.Rounds.{Refused, Turned};
 ghost use Rattle.resolve.specs.Walks.{known_to, outcome, rounds_told, walk_at};
 
-use crate::faults::{FillFault, MOST_ROUNDS};
 use crate::reading::{push_all, read_rows};
 use book::tables::Book;
 use catalog::faults::CatalogFault;
 use catalog::questions::TypeCatalog;
+use faults::fill::{FillFault, MOST_ROUNDS};
 use finds::memory::MOST_ROWS;
 use finds::tables::Finds;
 
@@ -94,4 +94,20 @@ pub fn walk<C: TypeCatalog>(
     finds.clear();
     push_all(finds, book, oids);
     walk_on(finds, book, catalog, MOST_ROWS, 0)
+}
+
+// The rounds behind the first, in which so many rows were read that are not among the finds. How many rounds were opened.
+pub fn go_on<C: TypeCatalog>(
+    finds: &mut Finds<'_>,
+    book: &Book<'_>,
+    catalog: &mut C,
+    apart: usize,
+) -> Result<u8, FillFault>
+    ensures outcome { outcome result finds.new ≡ walk_at (C.meaning catalog.old) (known_to book.now) (256 - apart) 1 finds.old }
+    ensures since { 1 ≤ rounds_told result }
+    ensures cost { Spent (rounds_told result - 1) (C.meaning catalog.old) (C.meaning catalog.new) }
+    ensures read { IfOk result (λ _. ReadFrom (C.meaning catalog.old) finds.old → ReadFrom (C.meaning catalog.old) finds.new) }
+    ensures all { IfOk result (λ _. reads_of finds.new ≡ queue_of finds.new) }
+{
+    walk_on(finds, book, catalog, MOST_ROWS.saturating_sub(apart), 1)
 }

@@ -1,8 +1,8 @@
 // What the rounds of types refuse, and what each refusal tells.
 ghost use Rattle.std.specs.Prelude.{◌≡◌, Some};
 ghost use Rattle.life.specs.Faults.{of_layer_fill as fill_layer};
-ghost use Rattle.resolve.specs.Faults.{fill_text, refusal_of};
-ghost use Rattle.resolve.specs.declared.faults.FillFault.TheVariants.{Catalog as OfCatalog};
+ghost use Rattle.faults.specs.Faults.{fill_text, refusal_of};
+ghost use Rattle.faults.specs.declared.fill.FillFault.TheVariants.{Catalog as OfCatalog};
 
 use book::sizes::BookTable;
 use catalog::faults::{CatalogFault, Layer, Told};
