@@ -1,6 +1,6 @@
 -- The faults of calls, as the law of a book's life has them.
 -- Assumes nothing.
-use Rattle.std.specs.Prelude.{ℕ, Bool, true, false, List, ◌++◌, codes, decimal, Ok, Err, Result}
+use Rattle.std.specs.Prelude.{ℕ, Bool, true, false, List, ◌++◌, codes, decimal}
 use Rattle.book.specs.Sizes.{position_of}
 use Rattle.catalog.specs.Faults.{fault_text}
 use Rattle.catalog.specs.declared.faults.Layer.{Layer}
@@ -8,7 +8,7 @@ use Rattle.catalog.specs.declared.faults.Layer.TheVariants as layer
 use Rattle.catalog.specs.declared.faults.Told.{Told}
 use Rattle.life.specs.Faults as life
 use Rattle.life.specs.Faults.{call_told, columns_told, fill_told}
-use Rattle.life.specs.Steps.{Ending, accepted, refused}
+use Rattle.life.specs.Steps.{Ending, refused}
 use Rattle.faults.specs.declared.call.CallFault.{CallFault}
 use Rattle.faults.specs.declared.call.CallFault.TheVariants as call
 use Rattle.faults.specs.declared.columns.ColumnsFault.{ColumnsFault}

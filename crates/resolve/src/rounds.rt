@@ -96,6 +96,13 @@ pub fn walk<C: TypeCatalog>(
     walk_on(finds, book, catalog, MOST_ROWS, 0)
 }
 
+// How many rows may be read in a step beside so many.
+fn beside(apart: usize) -> usize
+    ensures { result ≡ 256 - apart }
+{
+    MOST_ROWS.saturating_sub(apart)
+}
+
 // The rounds behind the first, in which so many rows were read that are not among the finds. How many rounds were opened.
 pub fn go_on<C: TypeCatalog>(
     finds: &mut Finds<'_>,
@@ -109,5 +116,5 @@ pub fn go_on<C: TypeCatalog>(
     ensures read { IfOk result (λ _. ReadFrom (C.meaning catalog.old) finds.old → ReadFrom (C.meaning catalog.old) finds.new) }
     ensures all { IfOk result (λ _. reads_of finds.new ≡ queue_of finds.new) }
 {
-    walk_on(finds, book, catalog, MOST_ROWS.saturating_sub(apart), 1)
+    walk_on(finds, book, catalog, beside(apart), 1)
 }
