@@ -1,10 +1,12 @@
 // A new book, and the room of one.
-ghost use Rattle.std.specs.Prelude.{◌≡◌};
+ghost use Rattle.std.specs.Prelude.{◌≡◌, []};
 ghost use Rattle.std.specs.Option.{option_map};
 ghost use Rattle.book.specs.Book.{held_of, slots_of};
 ghost use Rattle.book.specs.Held.{nothing_held};
+ghost use Rattle.book.specs.Lived.{HasLived};
 ghost use Rattle.book.specs.Sizes.{position_of, sizes_told};
 ghost use Rattle.book.specs.Stands.{Stands};
+ghost use Rattle.catalog.specs.Catalog.{Catalog};
 ghost use Rattle.room.specs.Sizes.{capacities, first_full};
 ghost use Rattle.room.specs.Tables.{no_tables};
 
@@ -20,6 +22,7 @@ impl<'a> Book<'a> {
     pub fn new(memory: Memory<'a>) -> Book<'a>
         ensures held { held_of result ≡ nothing_held (capacities (slots_of memory.entry)) }
         ensures stands { Stands (held_of result) no_tables }
+        ensures lived { (c : Catalog) → HasLived [] c (held_of result) }
     {
         let Memory {
             descriptors,

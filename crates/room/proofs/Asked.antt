@@ -26,7 +26,7 @@ module _ (capacity : Sizes) where
         (λ z. subst Does (sym z.1) (record { laws = laws; after = refl; what = inr ((early_number host call z.0 z.1, refl, refl), refl) }))
         (split_option (early_refusal host call))
 
-  asked_done : (host : List ℕ) (call : HostCall) (e : Event) (t t' : Tables) → AskedWithin capacity host call e t t' → DoneWithin capacity e t t'
+  pub asked_done : (host : List ℕ) (call : HostCall) (e : Event) (t t' : Tables) → AskedWithin capacity host call e t t' → DoneWithin capacity e t t'
   asked_done host call e t t' a =
       subst (λ (v : Event). DoneWithin capacity v t t') (sym a.event)
       (subst (λ (v : Tables). DoneWithin capacity (call_event e.before (meant host call) (asked_within capacity host e.before t call).ending) t v) (sym a.left)

@@ -1,4 +1,4 @@
-use Rattle.std.proofs.Common.{◌≡◌, ◌∙◌, ap, arith, length, min, subst, sym}
+use Rattle.std.proofs.Common.{◌≡◌, ◌∙◌, ap, arith, length, min, refl, subst, sym}
 use Rattle.std.specs.Option.{option_map}
 use Rattle.catalog.specs.Meaning.{oid_told}
 use Rattle.keys.specs.Spans.{span_bytes}
@@ -50,3 +50,6 @@ returns-clause-held c =
 
 pub returns-clause-stands : goal.returns-clause-stands
 returns-clause-stands c = subst (λ (g : Held). Stands g no_tables) (sym (returns-clause-held c)) (stands_new _)
+
+pub returns-clause-lived : goal.returns-clause-lived
+returns-clause-lived c catalog = record { tables = no_tables; lived = refl; stands = returns-clause-stands c }

@@ -1,0 +1,64 @@
+-- What a fault tells of its layer.
+-- Assumes nothing.
+use Rattle.std.proofs.Common.{◌≡◌, ℕ, Some, Option, ◌⊎◌, List, sym, refl, ap, subst, inl, inr, ⊎_elim, arith, false, ⊥}
+use Rattle.catalog.specs.Catalog.{Catalog}
+use Rattle.catalog.specs.Faults.{fault_told}
+use Rattle.catalog.specs.declared.faults.CatalogFault.{CatalogFault}
+use Rattle.catalog.specs.declared.faults.CatalogFault.TheVariants.{NoAllowance, BreaksLimit, Contradicts, Full as Lacks}
+use Rattle.catalog.specs.declared.faults.Layer.TheVariants as layer
+use Rattle.catalog.specs.declared.faults.Told.{Told}
+use Rattle.life.specs.HostCalls.{HostCall, asked_outcome}
+use Rattle.life.specs.Steps.{Book, Ending, refused}
+use Rattle.life.specs.Told.{Listed, told_of}
+use Rattle.life.proofs.Told.{told_law}
+use Rattle.calls.specs.Endings.{TellsOf}
+use Rattle.faults.specs.Faults.{call_refusal_of, refusal_of, refused_so}
+use Rattle.faults.specs.declared.call.CallFault.{CallFault}
+use Rattle.faults.specs.declared.call.CallFault.TheVariants.{TooLong, NoSlot, BadName, NoOid, Fill, Columns}
+use Rattle.faults.specs.declared.columns.ColumnsFault.TheVariants as columns
+use Rattle.faults.specs.declared.fill.FillFault.{FillFault}
+use Rattle.faults.specs.declared.fill.FillFault.TheVariants.{Catalog as OfCatalog, TooManyRounds, Malformed, TooManyRows, Full, Unresolved}
+
+-- no fault of a fill is of layer columns
+pub not_of_columns : (f : FillFault) → refused_so (refusal_of f) ≡ refused (refusal_of f).number (refusal_of f).place false (refusal_of f).rounds
+not_of_columns (OfCatalog (NoAllowance round)) = refl
+not_of_columns (OfCatalog (BreaksLimit of)) = refl
+not_of_columns (OfCatalog (Contradicts of)) = refl
+not_of_columns (OfCatalog (Lacks table)) = refl
+not_of_columns TooManyRounds = refl
+not_of_columns (Malformed oid round) = refl
+not_of_columns (TooManyRows oid round) = refl
+not_of_columns (Full table rounds) = refl
+not_of_columns (Unresolved place rounds) = refl
+
+-- a call is not refused as an addition to a catalog is
+not_listed : (n p r : ℕ) → 10 < n → Listed layer.Fill n p r → ⊥
+not_listed n p r more = ⊎_elim (λ y. omega (arith, more, y.0)) (⊎_elim (λ y. omega (arith, more, y)) (⊎_elim (λ y. omega (arith, more, y)) (⊎_elim (λ y. omega (arith, more, y)) (λ y. omega (arith, more, y)))))
+
+module _ (full full_columns : Book → Option ℕ) (host : List ℕ) (c : Catalog) (b : Book) (call : HostCall) where
+  abbrev end : Ending
+  end = (asked_outcome full full_columns host c b call).ending
+
+  no_addition : (n p r : ℕ) → 10 < n → end ≡ refused n p false r → told_of (refused n p false r) ≡ Some (record { number = n; place = p; layer = layer.Fill; rounds = r }) → ⊥
+  no_addition n p r more e t = not_listed n p r more (told_law full full_columns host c b call (record { number = n; place = p; layer = layer.Fill; rounds = r }) (ap told_of e ∙ t)).0
+
+  at_ending : (fault : CallFault) → end ≡ refused_so (call_refusal_of fault) → told_of (refused_so (call_refusal_of fault)) ≡ Some (call_refusal_of fault)
+  at_ending (TooLong place) e = refl
+  at_ending (NoSlot place) e = refl
+  at_ending (BadName place) e = refl
+  at_ending (NoOid place rounds) e = refl
+  at_ending (Fill (OfCatalog (NoAllowance round))) e = refl
+  at_ending (Fill (OfCatalog (BreaksLimit of))) e = absurd (no_addition 11 of.0 0 (omega arith) e refl)
+  at_ending (Fill (OfCatalog (Contradicts of))) e = absurd (no_addition 12 of.0 0 (omega arith) e refl)
+  at_ending (Fill (OfCatalog (Lacks table))) e = absurd (no_addition 13 _ 0 (omega arith) e refl)
+  at_ending (Fill TooManyRounds) e = refl
+  at_ending (Fill (Malformed oid round)) e = refl
+  at_ending (Fill (TooManyRows oid round)) e = refl
+  at_ending (Fill (Full table rounds)) e = refl
+  at_ending (Fill (Unresolved place rounds)) e = refl
+  at_ending (Columns (columns.Catalog fault)) e = refl
+  at_ending (Columns (columns.Full table rounds)) e = refl
+
+  -- the fault of a refusal tells what a host is told of it
+  pub tells_so : (fault : CallFault) → refused_so (call_refusal_of fault) ≡ end → TellsOf end fault
+  tells_so fault e = subst (λ (x : Ending). TellsOf x fault) e (at_ending fault (sym e))

@@ -1,0 +1,57 @@
+-- A call that did what the law says is one more step of a book's life.
+-- Assumes nothing.
+use Rattle.std.proofs.Common.{◌≡◌, List, [], ◌∷◌, ◌×◌, sym, refl, ap, subst}
+use Rattle.catalog.specs.Catalog.{Catalog, Grows, Laws, Spent}
+use Rattle.life.specs.HostCalls.{HostCall, meant}
+use Rattle.life.specs.Keep.{call_event}
+use Rattle.life.specs.Life.{Lawful}
+use Rattle.life.specs.Steps.{Ending, Event, rounds_told}
+use Rattle.room.specs.Asked.{AskedWithin, asked_left, asked_within}
+use Rattle.room.specs.Room.{DoneWithin, LivedWithin}
+use Rattle.room.specs.Sizes.{Sizes}
+use Rattle.room.specs.Tables.{Tables}
+use Rattle.room.proofs.Asked.{asked_done}
+use Rattle.room.proofs.Room.{room_law}
+use Rattle.book.specs.Held.{Held}
+use Rattle.book.specs.Lived.{HasLived, LawHolds}
+use Rattle.book.specs.Stands.{Stands}
+
+whole : (h : List Event) (c : Catalog) (b : Held) → HasLived h c b → LawHolds h c b
+whole h c b l =
+    let law = room_law b.capacity h c l.tables l.lived in
+    record { life = l; lawful = subst (Lawful h c) l.stands.book law.0; counted = law.1 }
+
+same_grows : (c d : Catalog) → c ≡ d → Grows c d
+same_grows c d e = subst (Grows c) e (record { rows_stay = λ o r y. y; named_stay = λ s o y. y; columns_stay = λ o a k y. y })
+
+grows_on : (a b c : Catalog) → Grows a b → Grows b c → Grows a c
+grows_on a b c m n = record {
+  rows_stay = λ o r y. n.rows_stay o r (m.rows_stay o r y);
+  named_stay = λ s o y. n.named_stay s o (m.named_stay s o y);
+  columns_stay = λ o a k y. n.columns_stay o a k (m.columns_stay o a k y);
+}
+
+-- a life goes on over a catalog that grows
+grown : (capacity : Sizes) (h : List Event) (c d : Catalog) (t : Tables) → LivedWithin capacity h c t → Grows c d → LivedWithin capacity h d t
+grown capacity [] c d t l m = l
+grown capacity (e ∷ h) c d t l m = (l.0, l.1, l.2, grows_on e.after c d l.3 m)
+
+-- what an asked call does on the tables that a book stands for
+pub Does : (c : Catalog) (b b' : Held) (host : List ℕ) → HostCall → Ending → (t : Tables) → Type 0
+Does c b b' host call ending t =
+    (ending ≡ (asked_within b.capacity host c t call).ending) × Stands b' (asked_left b.capacity host c t call)
+
+pub one_more : (h : List Event) (d c c' : Catalog) (b b' : Held) (host : List ℕ) (call : HostCall) (ending : Ending) →
+    Laws c → HasLived h d b → Grows d c → Spent (rounds_told ending) c c' → b'.capacity ≡ b.capacity →
+    ((t : Tables) → Stands b t → LivedWithin b.capacity h c t → Does c b b' host call ending t) →
+    LawHolds (call_event c (meant host call) ending ∷ h) c' b'
+one_more h d c c' b b' host call ending laws l m cost same does =
+    let t : Tables = l.tables in
+    let lived : LivedWithin b.capacity h c t = grown b.capacity h d c t l.lived m in
+    let did = does t l.stands lived in
+    let e : Event = call_event c (meant host call) ending in
+    let t' : Tables = asked_left b.capacity host c t call in
+    let done : DoneWithin b.capacity e t t' =
+        asked_done b.capacity host call e t t' (record { laws = laws; event = ap (call_event c (meant host call)) did.0; left = refl }) in
+    let now : LivedWithin b.capacity (e ∷ h) c' t' = (t, lived, done, same_grows e.after c' (sym cost.after)) in
+    whole (e ∷ h) c' b' (record { tables = t'; lived = subst (λ (s : Sizes). LivedWithin s (e ∷ h) c' t') (sym same) now; stands = did.1 })

@@ -1,0 +1,4 @@
+// The calls of a kiosk on its book, as a host makes them.
+#![tactic(auto)]
+
+pub mod filling;
