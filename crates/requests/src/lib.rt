@@ -2,3 +2,4 @@
 #![tactic(auto)]
 
 pub mod asked;
+pub mod early;
