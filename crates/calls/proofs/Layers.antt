@@ -1,17 +1,19 @@
 -- What a fault tells of its layer.
 -- Assumes nothing.
-use Rattle.std.proofs.Common.{◌≡◌, ℕ, Some, Option, ◌⊎◌, List, sym, refl, ap, subst, inl, inr, ⊎_elim, arith, false, ⊥}
+use Rattle.std.proofs.Common.{◌≡◌, ◌∙◌, ℕ, ◌<◌, Some, Option, List, Result, Ok, Err, IfErr, sym, refl, ap, subst, ⊎_elim, arith, false}
 use Rattle.catalog.specs.Catalog.{Catalog}
-use Rattle.catalog.specs.Faults.{fault_told}
-use Rattle.catalog.specs.declared.faults.CatalogFault.{CatalogFault}
 use Rattle.catalog.specs.declared.faults.CatalogFault.TheVariants.{NoAllowance, BreaksLimit, Contradicts, Full as Lacks}
 use Rattle.catalog.specs.declared.faults.Layer.TheVariants as layer
-use Rattle.catalog.specs.declared.faults.Told.{Told}
-use Rattle.life.specs.HostCalls.{HostCall, asked_outcome}
+use Rattle.life.specs.HostCalls.{HostCall, asked_outcome, meant}
 use Rattle.life.specs.Steps.{Book, Ending, refused}
 use Rattle.life.specs.Told.{Listed, told_of}
 use Rattle.life.proofs.Told.{told_law}
-use Rattle.calls.specs.Endings.{TellsOf}
+use Rattle.room.specs.Asked.{asked_within}
+use Rattle.room.specs.Room.{columns_full, types_full}
+use Rattle.room.specs.Tables.{Tables, contents}
+use Rattle.book.specs.Held.{Held}
+use Rattle.book.specs.Stands.{Stands}
+use Rattle.calls.specs.Endings.{Did, TellsOf, ending_of}
 use Rattle.faults.specs.Faults.{call_refusal_of, refusal_of, refused_so}
 use Rattle.faults.specs.declared.call.CallFault.{CallFault}
 use Rattle.faults.specs.declared.call.CallFault.TheVariants.{TooLong, NoSlot, BadName, NoOid, Fill, Columns}
@@ -62,3 +64,10 @@ module _ (full full_columns : Book → Option ℕ) (host : List ℕ) (c : Catalo
   -- the fault of a refusal tells what a host is told of it
   pub tells_so : (fault : CallFault) → refused_so (call_refusal_of fault) ≡ end → TellsOf end fault
   tells_so fault e = subst (λ (x : Ending). TellsOf x fault) e (at_ending fault (sym e))
+
+pub layers : (c : Catalog) (b b' : Held) (host : List ℕ) (call : HostCall) (r : Result ℕ CallFault) →
+    ((t : Tables) → Stands b t → Did c b b' host call (ending_of r) t) →
+    IfErr r (λ fault. (t : Tables) → Stands b t → TellsOf (asked_within b.capacity host c t call).ending fault)
+layers c b b' host call (Ok n) did = tt
+layers c b b' host call (Err fault) did = λ t s.
+    tells_so (λ _. types_full b.capacity c t (meant host call)) (λ _. columns_full b.capacity c t (meant host call)) host c (contents t) call fault (did t s).ends

@@ -1,2 +1,3 @@
 pub mod Lives
 pub mod Layers
+pub mod Turned

@@ -1,20 +1,23 @@
 -- A call that did what the law says is one more step of a book's life.
 -- Assumes nothing.
-use Rattle.std.proofs.Common.{◌≡◌, List, [], ◌∷◌, ◌×◌, sym, refl, ap, subst}
-use Rattle.catalog.specs.Catalog.{Catalog, Grows, Laws, Spent}
-use Rattle.life.specs.HostCalls.{HostCall, meant}
+use Rattle.std.proofs.Common.{◌≡◌, ◌∙◌, ℕ, List, [], ◌∷◌, sym, refl, ap, subst, arith}
+use Rattle.catalog.specs.Catalog.{Catalog, Grows, Laws, Spent, spent}
+use Rattle.life.specs.Calls.{describe}
+use Rattle.life.specs.HostCalls.{HostCall, host_describe, meant}
 use Rattle.life.specs.Keep.{call_event}
 use Rattle.life.specs.Life.{Lawful}
-use Rattle.life.specs.Steps.{Ending, Event, rounds_told}
-use Rattle.room.specs.Asked.{AskedWithin, asked_left, asked_within}
+use Rattle.life.specs.Steps.{Ending, Event, accepted, rounds_told}
+use Rattle.room.specs.Asked.{asked_left}
 use Rattle.room.specs.Room.{DoneWithin, LivedWithin}
 use Rattle.room.specs.Sizes.{Sizes}
-use Rattle.room.specs.Tables.{Tables}
+use Rattle.room.specs.Tables.{Tables, extended, no_tables}
 use Rattle.room.proofs.Asked.{asked_done}
+use Rattle.room.proofs.Extended.{extended_none}
 use Rattle.room.proofs.Room.{room_law}
 use Rattle.book.specs.Held.{Held}
 use Rattle.book.specs.Lived.{HasLived, LawHolds}
 use Rattle.book.specs.Stands.{Stands}
+use Rattle.calls.specs.Endings.{Did}
 
 whole : (h : List Event) (c : Catalog) (b : Held) → HasLived h c b → LawHolds h c b
 whole h c b l =
@@ -36,14 +39,9 @@ grown : (capacity : Sizes) (h : List Event) (c d : Catalog) (t : Tables) → Liv
 grown capacity [] c d t l m = l
 grown capacity (e ∷ h) c d t l m = (l.0, l.1, l.2, grows_on e.after c d l.3 m)
 
--- what an asked call does on the tables that a book stands for
-pub Does : (c : Catalog) (b b' : Held) (host : List ℕ) → HostCall → Ending → (t : Tables) → Type 0
-Does c b b' host call ending t =
-    (ending ≡ (asked_within b.capacity host c t call).ending) × Stands b' (asked_left b.capacity host c t call)
-
 pub one_more : (h : List Event) (d c c' : Catalog) (b b' : Held) (host : List ℕ) (call : HostCall) (ending : Ending) →
     Laws c → HasLived h d b → Grows d c → Spent (rounds_told ending) c c' → b'.capacity ≡ b.capacity →
-    ((t : Tables) → Stands b t → LivedWithin b.capacity h c t → Does c b b' host call ending t) →
+    ((t : Tables) → Stands b t → LivedWithin b.capacity h c t → Did c b b' host call ending t) →
     LawHolds (call_event c (meant host call) ending ∷ h) c' b'
 one_more h d c c' b b' host call ending laws l m cost same does =
     let t : Tables = l.tables in
@@ -52,6 +50,19 @@ one_more h d c c' b b' host call ending laws l m cost same does =
     let e : Event = call_event c (meant host call) ending in
     let t' : Tables = asked_left b.capacity host c t call in
     let done : DoneWithin b.capacity e t t' =
-        asked_done b.capacity host call e t t' (record { laws = laws; event = ap (call_event c (meant host call)) did.0; left = refl }) in
+    asked_done b.capacity host call e t t' (record { laws = laws; event = ap (call_event c (meant host call)) did.ends; left = refl }) in
     let now : LivedWithin b.capacity (e ∷ h) c' t' = (t, lived, done, same_grows e.after c' (sym cost.after)) in
-    whole (e ∷ h) c' b' (record { tables = t'; lived = subst (λ (s : Sizes). LivedWithin s (e ∷ h) c' t') (sym same) now; stands = did.1 })
+    whole (e ∷ h) c' b' (record { tables = t'; lived = subst (λ (s : Sizes). LivedWithin s (e ∷ h) c' t') (sym same) now; stands = did.left })
+
+-- a Describe asks for nothing and leaves the tables as they are
+untouched : (c : Catalog) (b : Held) (o : ℕ) (t : Tables) → Stands b t → Stands b (asked_left b.capacity [] c t (host_describe o))
+untouched c b o t s = subst (Stands b) (sym (extended_none (extended t no_tables) ∙ extended_none t)) s
+
+nothing_spent : (c : Catalog) → Spent 0 c c
+nothing_spent c = record { enough = omega arith; after = ap (spent c) (omega arith) }
+
+pub describes : (h : List Event) (d c : Catalog) (b : Held) (o : ℕ) → Laws c → HasLived h d b → Grows d c →
+    LawHolds (call_event c (describe o) (accepted 0 0) ∷ h) c b
+describes h d c b o laws l m =
+    one_more h d c c b b [] (host_describe o) (accepted 0 0) laws l m (nothing_spent c) refl
+    (λ t s _. record { ends = refl; left = untouched c b o t s })

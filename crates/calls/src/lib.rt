@@ -1,4 +1,6 @@
 // The calls of a kiosk on its book, as a host makes them.
 #![tactic(auto)]
 
+pub mod describing;
+pub mod early;
 pub mod filling;
