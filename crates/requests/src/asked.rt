@@ -1,6 +1,7 @@
 // The entries of a resolve and the fields of a bind.
 ghost use Rattle.std.specs.Prelude.{◌≡◌};
 ghost use Rattle.keys.specs.Spans.{span_bytes};
+ghost use Rattle.life.specs.HostCalls.{inside as lies_inside};
 
 use keys::span::Span;
 use type_info::oid::{AttributeNumber, Oid};
@@ -28,4 +29,11 @@ pub fn name_in(host: &[u8], span: Span) -> &[u8]
     let start = host.len().min(span.start as usize);
     let rest = &host[start..];
     &rest[..rest.len().min(span.length as usize)]
+}
+
+// The span ends within the text.
+pub(crate) fn inside(host: &[u8], span: Span) -> bool
+    ensures { result ≡ lies_inside host.now span }
+{
+    span.start as usize + span.length as usize <= host.len()
 }

@@ -1,11 +1,11 @@
 // What is refused before any round: a list that is too long, an answer buffer that is too short, a name that may not be.
 ghost use Rattle.std.specs.Prelude.{◌≡◌, ℕ, ◌+◌, ◌<◌, ◌≤◌, ◌^◌, Bool, List, length, map, nat_lt, IfSome, MatchOption, if◌then◌else◌};
 ghost use Rattle.std.specs.Option.{option_map, option_or};
-ghost use Rattle.life.specs.HostCalls.{early_refusal, field_name, first_misnamed as misnamed_from, host_bind, host_fill, host_resolve, inside as lies_inside, misnamed as is_misnamed, type_name};
+ghost use Rattle.life.specs.HostCalls.{early_refusal, field_name, first_misnamed as misnamed_from, host_bind, host_fill, host_resolve, misnamed as is_misnamed, type_name};
 ghost use Rattle.requests.specs.Asked.{field_asked, type_asked};
 ghost use Rattle.requests.specs.Early.{bind_asked, early_told, place_of, resolve_asked};
 
-use crate::asked::{FieldAsked, TypeAsked};
+use crate::asked::{FieldAsked, TypeAsked, inside};
 use keys::span::Span;
 
 // A place counts entries from 0, in a bind from the parameters on through the fields.
@@ -20,7 +20,7 @@ pub enum Early {
 }
 
 // How many entries a list may have.
-const MOST: usize = 256;
+pub(crate) const MOST: usize = 256;
 
 // Where nothing is refused, each list has at most so many entries, and the answer buffer of each a slot for each of its entries.
 pub fn fill_refused(oids: &[u32]) -> Option<Early>
@@ -95,13 +95,6 @@ fn first_behind_either(slots: usize, count: usize, more_slots: usize, more: usiz
         Some(place) => Some(place),
         None => first_behind(more_slots, count, more),
     }
-}
-
-// The span ends within the text.
-fn inside(host: &[u8], span: Span) -> bool
-    ensures { result ≡ lies_inside host.now span }
-{
-    span.start as usize + span.length as usize <= host.len()
 }
 
 // The name is too short or too long, or lies outside the text.
