@@ -6,7 +6,7 @@ use Rattle.std.proofs.lemmas.Option.{get_or_from_slice_get, slice_get-map, slice
 use Rattle.catalog.specs.Catalog.{Catalog, CatalogRow}
 use Rattle.unfolding.specs.Lists.{Mem}
 use Rattle.unfolding.specs.Unfolding.{Tree, built, built_in}
-use Rattle.life.specs.Calls.{fill}
+use Rattle.life.specs.Calls.{Call}
 use Rattle.life.specs.Lists.{first_place, is_in}
 use Rattle.life.specs.Outcomes.{unresolved}
 use Rattle.life.specs.Rounds.{Descriptors, Known, StandsOnce, found}
@@ -90,8 +90,8 @@ turned false true false must = refl
 turned false false row must = absurd (not_both (must refl) refl)
 
 -- once the rows of all that stood are kept, what is left of the requests is what refusal 9 offends at
-module _ (c : Catalog) (t : Tables) (os reads : List ℕ) (are : (o : ℕ) → Mem o reads ↔ StandsOnce c (contents t).descriptors os o)
-    (g : Held) (s : Stands g (with_types c t (fill os) reads [])) where
+module _ (c : Catalog) (t : Tables) (call : Call) (os reads : List ℕ) (are : (o : ℕ) → Mem o reads ↔ StandsOnce c (contents t).descriptors os o)
+    (g : Held) (s : Stands g (with_types c t call reads [])) where
   abbrev b : Descriptors
   b = (contents t).descriptors
 
@@ -100,7 +100,7 @@ module _ (c : Catalog) (t : Tables) (os reads : List ℕ) (are : (o : ℕ) → M
 
   known_so : (o : ℕ) → answered (book_held g).descriptors o ≡ is_some (found d o)
   known_so o =
-      ap (λ x. built_in o || is_some x) (ap (λ (k : Book). k.descriptors o) (sym s.book) ∙ described_so c t (fill os) reads [] o)
+      ap (λ x. built_in o || is_some x) (ap (λ (k : Book). k.descriptors o) (sym s.book) ∙ described_so c t call reads [] o)
       ∙ known_found (built_in o) (built o) (d o)
 
   stays_known : (o : ℕ) → Known b o → Known d o

@@ -6,3 +6,4 @@ pub mod Turns
 pub mod Walking
 pub mod Left
 pub mod Filled
+pub mod Places

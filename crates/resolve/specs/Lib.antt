@@ -1,3 +1,4 @@
 pub mod Walks
 pub mod Rounds
 pub mod Fills
+pub mod Lists

@@ -2,5 +2,6 @@
 #![tactic(auto)]
 
 pub mod filling;
+pub mod lists;
 pub mod reading;
 pub mod rounds;
