@@ -1,0 +1,4 @@
+// A bind: its types and its columns go into the book, and what it answers is written over the host's buffers.
+#![tactic(auto)]
+
+pub mod types;
