@@ -1,0 +1,5 @@
+// Round 1 of a resolve: its entries are asked for one after the other, and what they lead to goes on round by round.
+#![tactic(auto)]
+
+pub mod notes;
+pub mod noting;
