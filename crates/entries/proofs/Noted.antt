@@ -67,9 +67,9 @@ module _ (n : Notes) (p : Oid) (a : Option Oid) (new : is_in p.0 (apart_of n) �
   leads_then : (o : ℕ) → option_map oid_told (by_oid index o) ≡ look_up nat_eq (all_noted apart) o
   leads_then o =
       let told : option_map oid_told (by_oid index o) ≡ cond (nat_eq p.0 o) (Some (oid_told a)) (look_up nat_eq (apart_told n) o) =
-          ap (option_map oid_told) (gained.holds o) ∙ mapped (nat_eq p.0 o) a (by_oid n.index o) ∙ ap (cond (nat_eq p.0 o) (Some (oid_told a))) (n.indexed.leads o) in
+      ap (option_map oid_told) (gained.holds o) ∙ mapped (nat_eq p.0 o) a (by_oid n.index o) ∙ ap (cond (nat_eq p.0 o) (Some (oid_told a))) (n.indexed.leads o) in
       let last : look_up nat_eq (all_noted apart) o ≡ option_or (look_up nat_eq (apart_told n) o) (if nat_eq o p.0 then Some (oid_told a) else None) =
-          ap (λ xs. look_up nat_eq xs o) told_then ∙ look_append nat_eq Decides-eqb (apart_told n) ((p.0, oid_told a) ∷ []) o in
+      ap (λ xs. look_up nat_eq xs o) told_then ∙ look_append nat_eq Decides-eqb (apart_told n) ((p.0, oid_told a) ∷ []) o in
       ⊎_elim
       (λ y.
       let same : p.0 ≡ o = (Decides-eqb p.0 o).0 y in

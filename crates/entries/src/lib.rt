@@ -1,5 +1,6 @@
 // Round 1 of a resolve: its entries are asked for one after the other, and what they lead to goes on round by round.
 #![tactic(auto)]
 
+pub mod asking;
 pub mod notes;
 pub mod noting;
