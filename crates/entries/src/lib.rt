@@ -2,5 +2,6 @@
 #![tactic(auto)]
 
 pub mod asking;
+pub mod first_round;
 pub mod notes;
 pub mod noting;

@@ -1,0 +1,103 @@
+// Round 1 of a resolve: for each entry where its name leads, and the rows that it bears on.
+ghost use Rattle.std.specs.Prelude.{◌≡◌, ◌<◌, ◌≤◌, ◌∷◌, ◌++◌, [], IfOk, length, map};
+ghost use Rattle.book.specs.Book.{held_of};
+ghost use Rattle.book.specs.Held.{book_held};
+ghost use Rattle.catalog.specs.Meaning.{oid_told};
+ghost use Rattle.entries.specs.Asking.{AllRead, CameTo, entry_lead, from_here};
+ghost use Rattle.entries.specs.Notes.{leads_told};
+ghost use Rattle.life.specs.HostCalls.{meant_type};
+ghost use Rattle.life.specs.Reading.{read_all, read_entries};
+ghost use Rattle.life.specs.RoundOne.{entry_asks, lead};
+ghost use Rattle.requests.specs.Asked.{declared_by, type_asked};
+
+use crate::asking::{ask_element, ask_full};
+use crate::notes::Notes;
+use book::tables::Book;
+use catalog::questions::TypeCatalog;
+use faults::fill::FillFault;
+use finds::tables::Finds;
+use requests::asked::{TypeAsked, name_in};
+use type_info::oid::Oid;
+
+// The OID that a name leads to: the book's answer, or else the catalog's.
+fn lead_of<C: TypeCatalog>(
+    book: &Book<'_>,
+    catalog: &C,
+    opened: &C::Round,
+    name: &[u8],
+) -> Option<Oid>
+    ensures { oid_told result ≡ lead (C.meaning catalog.now) (book_held (held_of book.now)) name.now }
+{
+    match book.oid_of(name) {
+        Some(oid) => Some(oid),
+        None => catalog.oid_of(opened, name),
+    }
+}
+
+fn entry_lead<C: TypeCatalog>(
+    book: &Book<'_>,
+    catalog: &C,
+    opened: &C::Round,
+    host: &[u8],
+    entry: TypeAsked,
+) -> Option<Oid>
+    ensures { oid_told result ≡ entry_lead (C.meaning catalog.now) (book_held (held_of book.now)) (meant_type host.now (type_asked entry)) }
+{
+    match entry {
+        TypeAsked::Oid(_) => None,
+        TypeAsked::Name(span) | TypeAsked::ArrayOf(span) => {
+            lead_of(book, catalog, opened, name_in(host, span))
+        }
+    }
+}
+
+// Notes where the name of an entry leads, and asks for the rows that the entry bears on.
+fn read_entry<C: TypeCatalog>(
+    finds: &mut Finds<'_>,
+    notes: &mut Notes<'_>,
+    book: &Book<'_>,
+    catalog: &C,
+    opened: &C::Round,
+    host: &[u8],
+    entry: TypeAsked,
+) -> Result<(), FillFault>
+    requires all { AllRead (C.meaning catalog.now) finds.old notes.old }
+    ensures came { let c = C.meaning catalog.now in let b = book_held (held_of book.now) in
+        CameTo c (from_here (read_all c b (entry_asks c b (meant_type host.now (type_asked entry)))) finds.old notes.old) result finds.new notes.new }
+    ensures leads { length (leads_told notes.old) < 256 → leads_told notes.new
+        ≡ leads_told notes.old ++ entry_lead (C.meaning catalog.now) (book_held (held_of book.now)) (meant_type host.now (type_asked entry)) ∷ [] }
+{
+    let lead = entry_lead(book, catalog, opened, host, entry);
+    notes.push_lead(lead);
+    let Some(oid) = lead else {
+        return Ok(());
+    };
+    match entry {
+        TypeAsked::Oid(_) => Ok(()),
+        TypeAsked::Name(_) => ask_full(finds, notes, book, catalog, opened, oid),
+        TypeAsked::ArrayOf(_) => ask_element(finds, notes, book, catalog, opened, oid),
+    }
+}
+
+// All entries, one after the other.
+fn read_entries<C: TypeCatalog>(
+    finds: &mut Finds<'_>,
+    notes: &mut Notes<'_>,
+    book: &Book<'_>,
+    catalog: &C,
+    opened: &C::Round,
+    host: &[u8],
+    entries: &[TypeAsked],
+) -> Result<(), FillFault>
+    requires all { AllRead (C.meaning catalog.now) finds.old notes.old }
+    requires none { leads_told notes.old ≡ [] }
+    ensures came { let c = C.meaning catalog.now in let b = book_held (held_of book.now) in
+        CameTo c (from_here (read_entries c b (declared_by host.now entries.now)) finds.old notes.old) result finds.new notes.new }
+    ensures leads { IfOk result (λ _. length entries.now ≤ 256 →
+        leads_told notes.new ≡ map (entry_lead (C.meaning catalog.now) (book_held (held_of book.now))) (declared_by host.now entries.now)) }
+{
+    for entry in entries {
+        read_entry(finds, notes, book, catalog, opened, host, *entry)?;
+    }
+    Ok(())
+}
