@@ -1,1 +1,2 @@
 pub mod TypesDone
+pub mod Asking

@@ -1,1 +1,4 @@
 pub mod Types
+pub mod Memory
+pub mod Asked
+pub mod ColumnRound

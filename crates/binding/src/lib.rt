@@ -2,3 +2,7 @@
 #![tactic(auto)]
 
 pub mod types;
+// A bind: the columns that its fields come from are asked for in one round.
+
+pub mod columns;
+pub mod memory;
