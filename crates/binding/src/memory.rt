@@ -2,7 +2,7 @@
 ghost use Rattle.binding.specs.Memory.{Lent};
 
 use catalog::values::Column;
-use indexes::whole::{AttributeIndex, OidIndex};
+use indexes::whole::AttributeIndex;
 use keys::kinds::Attribute;
 use slots::map::Entry;
 use slots::stack::Stack;
@@ -26,6 +26,6 @@ pub struct ColumnMemory<'a> {
 pub struct ColumnFinds<'a> {
     pub(crate) asked: AttributeIndex<'a, u32>,
     pub(crate) found: Stack<'a, (Attribute, Column)>,
-    pub(crate) seen: OidIndex<'a, u32>,
-    ghost lent: { Lent asked found seen },
+    pub(crate) seen: &'a mut [Entry<Oid, u32>],
+    ghost lent: { Lent asked found seen.now },
 }
