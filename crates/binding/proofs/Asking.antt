@@ -2,7 +2,7 @@
 -- Assumes nothing.
 use Rattle.std.proofs.Common.{◌≡◌, ℕ, ◌+◌, ◌<◌, ◌≤◌, Bool, true, false, ◌||◌, cond, List, [], ◌∷◌, ◌++◌, length, is_some, Some, None, Option, option_map, option_to_list, sym, refl, ap, ◌∙◌, subst, ⊎_elim, arith, append-nil, length-append}
 use Rattle.std.specs.List.{cons_option, list_any}
-use Rattle.std.proofs.lemmas.Bool.{cases_Bool, cond-false, or_from}
+use Rattle.std.proofs.lemmas.Bool.{cases_Bool, or_from}
 use Rattle.std.proofs.lemmas.List.{length-map, map-append}
 use Rattle.std.proofs.lemmas.List.Elements.{filter_map-append}
 use Rattle.catalog.specs.Catalog.{Catalog, CatalogColumn}
@@ -17,12 +17,12 @@ use Rattle.slots.specs.Stack.{LentItems, Pushed}
 use Rattle.life.specs.Lists.{fresh_by, push_all, push_new}
 use Rattle.life.specs.Tests.{sources}
 use Rattle.life.proofs.Fresh.{mem_push, pushed}
-use Rattle.life.proofs.Lists.{chosen_false, chosen_true, is_none_if, not_both, not_some_none, same_truth}
+use Rattle.life.proofs.Lists.{chosen_false, chosen_true, is_none_if, not_both, same_truth}
 use Rattle.requests.specs.Asked.{fields_of}
 use Rattle.requests.specs.declared.asked.FieldAsked.{FieldAsked}
 use Rattle.book.specs.Held.{Held}
 use Rattle.book.proofs.Put.{pushed_behind, taken}
-use Rattle.finds.specs.Columns.{FoundColumn, columns_found, columns_told}
+use Rattle.finds.specs.Columns.{columns_found, columns_told}
 use Rattle.binding.specs.declared.memory.ColumnFinds.{ColumnFinds}
 use Rattle.binding.specs.Asked.{Gathered, asked_of, source_of, unheld}
 

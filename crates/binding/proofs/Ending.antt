@@ -1,6 +1,6 @@
 -- How the computed column round ends, by cases.
 -- Assumes nothing.
-use Rattle.std.proofs.Common.{◌≡◌, ℕ, zero, suc, ◌+◌, ◌-◌, ◌≤◌, true, List, [], ◌∷◌, is_some, option_map, Some, None, Option, sym, refl, ap, ◌∙◌, subst, arith}
+use Rattle.std.proofs.Common.{◌≡◌, ℕ, zero, suc, ◌+◌, ◌-◌, ◌≤◌, true, List, [], ◌∷◌, option_map, Some, None, Option, sym, refl, ap, ◌∙◌, subst, arith}
 use Rattle.catalog.specs.Catalog.{Catalog, Opened, Spent, spent}
 use Rattle.keys.specs.Kinds.{same-pair}
 use Rattle.keys.specs.Senses.{Pair, same_pair}
@@ -59,3 +59,12 @@ module _ (full : Option ℕ) (c : Catalog) (b : Book) (q : Binding) (n : ℕ) wh
           let next : n + 1 ≡ suc n = omega arith in
           let same : refused 8 table true (n + 1) ≡ e = cc in
           sym same ∙ ap (refused 8 table true) next
+
+-- whatever else the bind asks, and whatever rows were read, it ends so
+pub same_ending :
+    (full : Book → Option ℕ) (x : Option ℕ) (c d : Catalog) (b e : Book) (q r : Binding) (n left : ℕ) (reads : List ℕ) (asked : List Pair) →
+    (column_round full (λ _. x) c b q n reads left asked).ending ≡ out x d e r n left asked
+same_ending full x c d b e q r n left reads [] = refl
+same_ending full x c d b e q r n zero reads (p ∷ ps) = refl
+same_ending full None c d b e q r n (suc left) reads (p ∷ ps) = refl
+same_ending full (Some table) c d b e q r n (suc left) reads (p ∷ ps) = refl

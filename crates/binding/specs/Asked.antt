@@ -1,6 +1,6 @@
 -- The columns that fields come from, and what a column round has asked for and found.
 -- Assumes nothing.
-use Rattle.std.specs.Prelude.{◌≡◌, ℕ, Bool, true, false, if◌then◌else◌, List, [], length, is_some, Some, None, Option}
+use Rattle.std.specs.Prelude.{◌≡◌, true, if◌then◌else◌, List, [], length, is_some, Some, None, Option}
 use Rattle.std.specs.List.{list_any}
 use Rattle.catalog.specs.Catalog.{Catalog}
 use Rattle.keys.specs.Senses.{Pair, same_pair}
@@ -33,7 +33,7 @@ binding_of fields = record { parameters = []; fields = fields_of fields; queries
 abbrev pub asked_of : Held → List FieldAsked → List Pair
 asked_of h fields = column_questions (book_held h) (binding_of fields)
 
--- these columns were asked for, each once, and found are those of them that the catalog has
+-- these columns were asked for, in turn, and found are those of them that the catalog has
 pub record Gathered (c : Catalog) (asked : List Pair) (f : ColumnFinds) : Type 0 where
   pub indexed : (p : Pair) → is_some (by_attribute f.asked p) ≡ list_any (same_pair p) asked
   pub counted : filled f.asked ≡ length asked

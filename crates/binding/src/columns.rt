@@ -36,7 +36,10 @@ impl<'a> ColumnFinds<'a> {
         ensures { MatchOption result (Whole memory.entry → ⊥) (λ f. Whole memory.entry × ((c : Catalog) → Gathered c [] f)) }
     {
         let ColumnMemory { asked, found, seen } = memory;
-        if asked.len() != COLUMN_SLOTS || found.len() != MOST_COLUMNS || seen.len() != COLUMN_SLOTS {
+        if asked.len() != COLUMN_SLOTS
+            || found.len() != MOST_COLUMNS
+            || seen.len() != COLUMN_SLOTS
+        {
             return None;
         }
         Some(ColumnFinds {
@@ -111,7 +114,7 @@ impl<'a> ColumnFinds<'a> {
         Ok(())
     }
 
-    // The first table of the book without room for what was found.
+    // The first table of the book without room for what was found, which there are slots enough to count.
     fn full(&mut self, book: &Book<'_>) -> Option<BookTable>
         ensures full { (c : Catalog) → (asked : List Pair) → Gathered c asked self.old → Distinct asked → (t : Tables) → Stands (held_of book.now) t →
             option_map position_of result ≡ columns_full c (held_of book.now) t asked }

@@ -21,7 +21,7 @@ pub struct ColumnMemory<'a> {
     pub seen: &'a mut [Entry<Oid, u32>],
 }
 
-// Which columns were asked for, what was found of them, and slots in which relations are counted.
+// Which columns were asked for, what was found of them, and slots for the count of their relations.
 #[derive(Drop)]
 pub struct ColumnFinds<'a> {
     pub(crate) asked: AttributeIndex<'a, u32>,

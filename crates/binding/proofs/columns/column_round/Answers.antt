@@ -1,4 +1,4 @@
-use Rattle.std.proofs.Common.{◌≡◌, ◌+◌, ◌∙◌, ap, subst, sym, arith}
+use Rattle.std.proofs.Common.{◌≡◌, ◌+◌, ◌∙◌, subst, sym, arith}
 use Rattle.std.proofs.lemmas.Result.{err_from_is_err_and}
 use Rattle.book.specs.Book.{held_of}
 use Rattle.book.specs.Stands.{Stands}
@@ -6,13 +6,17 @@ use Rattle.binding.specs.Asked.{asked_of, binding_of}
 use Rattle.binding.specs.ColumnRound.{FullAt, columns_full}
 use Rattle.binding.proofs.Ending.{asked_distinct, full_ends, kept_ends, no_columns, spent_one}
 use Rattle.faults.specs.Faults.{columns_refusal_of, refused_so}
+use Rattle.room.specs.Added.{with_columns}
 use Rattle.room.specs.Tables.{contents}
 use Rattle.binding.proofs.columns.column_round.Goals as goal
 
 pub returns-then-not-any_asked-clause-kept : goal.returns-then-not-any_asked-clause-kept
 returns-then-not-any_asked-clause-kept g c = λ few related t s.
+    let k = g.C.TypeCatalog.meaning c.args.catalog.now in
     let h = held_of c.args.book.now in
-    subst (Stands h) (sym (no_columns (g.C.TypeCatalog.meaning c.args.catalog.now) t (asked_of h c.args.fields.now) c.if-not-any_asked.ensures)) s
+    let asked = asked_of h c.args.fields.now in
+    let same : t ≡ with_columns k t asked = sym (no_columns k t asked c.if-not-any_asked.ensures) in
+    subst (Stands h) same s
 
 pub returns-in_err-keep-clause-told : goal.returns-in_err-keep-clause-told
 returns-in_err-keep-clause-told g c = λ few small t s.

@@ -1,5 +1,4 @@
 use Rattle.std.proofs.Common.{◌∙◌, ap, sym}
-use Rattle.book.specs.Book.{held_of}
 use Rattle.finds.specs.Columns.{columns_told}
 use Rattle.keys.specs.declared.kinds.Attribute.{Attribute}
 use Rattle.catalog.specs.declared.values.Column.{Column}
