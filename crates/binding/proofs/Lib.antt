@@ -1,3 +1,4 @@
 pub mod TypesDone
 pub mod Asking
 pub mod Ending
+pub mod Slots

@@ -2,3 +2,4 @@ pub mod Types
 pub mod Memory
 pub mod Asked
 pub mod ColumnRound
+pub mod Writing

@@ -6,3 +6,4 @@ pub mod types;
 
 pub mod columns;
 pub mod memory;
+pub mod writing;
