@@ -1,4 +1,3 @@
 pub mod TypesDone
 pub mod Asking
 pub mod Ending
-pub mod Slots

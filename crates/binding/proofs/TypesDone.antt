@@ -141,7 +141,7 @@ module _ (c : Catalog) (h : Held) (t : Tables) (s : Stands h t) (q : Binding) (p
       -- by the first that is left
       module _ (x : Option ℕ) (left : x ≡ first_place (left_over c (answered (book_held g).descriptors) reads) 0 rs) where
         first_so : x ≡ first
-        first_so = left ∙ first_left_so c t (bind q) rs reads are g now ∙ ap (first_place (unresolved c (settled c b.descriptors reads)) 0) (sym asked)
+        first_so = left ∙ first_left_so c t (bind q) rs reads [] are g now ∙ ap (first_place (unresolved c (settled c b.descriptors reads)) 0) (sym asked)
 
         pub left_in : (place : ℕ) → x ≡ Some place → place < length rs
         left_in place e = place_in (left_over c (answered (book_held g).descriptors) reads) rs place (sym left ∙ e)

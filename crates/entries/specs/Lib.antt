@@ -1,3 +1,4 @@
 pub mod Tables
 pub mod Notes
 pub mod Asking
+pub mod Answers

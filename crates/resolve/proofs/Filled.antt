@@ -131,7 +131,7 @@ module _ (c : Catalog) (h : Held) (t : Tables) (s : Stands h t) (os : List ℕ) 
       -- by the first that is left
       module _ (x : Option ℕ) (first : x ≡ first_place (left_over c (answered (book_held g).descriptors) reads) 0 os) where
         closed : closing n x None ≡ out.ending
-        closed = ap (λ y. closing n y None) (first ∙ first_left_so c t (fill os) os reads are g now) ∙ sym kept_ends
+        closed = ap (λ y. closing n y None) (first ∙ first_left_so c t (fill os) os reads [] are g now) ∙ sym kept_ends
 
         pub accepted_ends : x ≡ None → ending_told (Ok n) ≡ out.ending
         accepted_ends e = ap (λ y. closing n y None) (sym e) ∙ closed

@@ -90,30 +90,30 @@ turned false true false must = refl
 turned false false row must = absurd (not_both (must refl) refl)
 
 -- once the rows of all that stood are kept, what is left of the requests is what refusal 9 offends at
-module _ (c : Catalog) (t : Tables) (call : Call) (os reads : List ℕ) (are : (o : ℕ) → Mem o reads ↔ StandsOnce c (contents t).descriptors os o)
-    (g : Held) (s : Stands g (with_types c t call reads [])) where
+module _ (c : Catalog) (t : Tables) (call : Call) (os reads apart : List ℕ) (are : (o : ℕ) → Mem o reads ↔ StandsOnce c (contents t).descriptors os o)
+    (g : Held) (s : Stands g (with_types c t call reads apart)) where
   abbrev b : Descriptors
   b = (contents t).descriptors
 
   abbrev d : Descriptors
   d = settled c b reads
 
-  known_so : (o : ℕ) → answered (book_held g).descriptors o ≡ is_some (found d o)
+  pub known_so : (o : ℕ) → answered (book_held g).descriptors o ≡ is_some (found d o)
   known_so o =
-      ap (λ x. built_in o || is_some x) (ap (λ (k : Book). k.descriptors o) (sym s.book) ∙ described_so c t call reads [] o)
+      ap (λ x. built_in o || is_some x) (ap (λ (k : Book). k.descriptors o) (sym s.book) ∙ described_so c t call reads apart o)
       ∙ known_found (built_in o) (built o) (d o)
 
   stays_known : (o : ℕ) → Known b o → Known d o
   stays_known o = ⊎_elim (λ y. inl y) (λ u. inr (u.0, settled_ext c b reads o u.0 u.1))
 
-  must_stand : (o : ℕ) → Mem o os → is_some (found d o) ≡ false → is_in o reads ≡ true
+  pub must_stand : (o : ℕ) → Mem o os → is_some (found d o) ≡ false → is_in o reads ≡ true
   must_stand o m unknown =
       ⊎_elim
       (λ k. absurd (not_both ((found_tells d o).1 (stays_known o k)) unknown))
       (λ u. mem_in o reads ((are o).1 (1, (m, u))))
       (cases_known b o)
 
-  left_so : (o : ℕ) → Mem o os → left_over c (answered (book_held g).descriptors) reads o ≡ unresolved c d o
+  pub left_so : (o : ℕ) → Mem o os → left_over c (answered (book_held g).descriptors) reads o ≡ unresolved c d o
   left_so o m =
       ap (λ (k : Bool). not k && (is_in o reads && is_some (c.rows o))) (known_so o)
       ∙ turned (is_some (found d o)) (is_in o reads) (is_some (c.rows o)) (must_stand o m)

@@ -7,3 +7,4 @@ pub mod Walking
 pub mod Left
 pub mod Filled
 pub mod Places
+pub mod Slots

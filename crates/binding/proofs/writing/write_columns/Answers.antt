@@ -7,7 +7,7 @@ use Rattle.book.specs.Held.{book_held}
 use Rattle.life.specs.Written.{bound_columns}
 use Rattle.requests.specs.Asked.{fields_of}
 use Rattle.requests.specs.declared.asked.FieldAsked.{FieldAsked}
-use Rattle.binding.proofs.Slots.{writing_done}
+use Rattle.resolve.proofs.Slots.{writing_done}
 use Rattle.binding.proofs.writing.write_columns.Goals as goal
 
 pub returns-clause-written : goal.returns-clause-written

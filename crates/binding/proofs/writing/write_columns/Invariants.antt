@@ -6,7 +6,7 @@ use Rattle.book.specs.Held.{book_held}
 use Rattle.life.specs.Written.{bound_columns}
 use Rattle.requests.specs.Asked.{fields_of}
 use Rattle.requests.specs.declared.asked.FieldAsked.{FieldAsked}
-use Rattle.binding.proofs.Slots.{Writing}
+use Rattle.resolve.proofs.Slots.{Writing}
 use Rattle.binding.proofs.writing.write_columns.Given as goal
 
 abbrev pub invariant-loop-place : goal.invariant-loop-place

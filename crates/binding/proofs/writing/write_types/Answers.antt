@@ -2,7 +2,7 @@ use Rattle.std.proofs.Common.{ap, drop, arith}
 use Rattle.std.proofs.lemmas.List.{drop_all}
 use Rattle.binding.specs.Writing.{type_told, types_answered}
 use Rattle.book.specs.Book.{held_of}
-use Rattle.binding.proofs.Slots.{writing_done}
+use Rattle.resolve.proofs.Slots.{writing_done}
 use Rattle.binding.proofs.writing.write_types.Goals as goal
 
 pub returns-clause-written : goal.returns-clause-written

@@ -1,7 +1,7 @@
 use Rattle.std.proofs.Common.{drop}
 use Rattle.binding.specs.Writing.{type_told, types_answered}
 use Rattle.book.specs.Book.{held_of}
-use Rattle.binding.proofs.Slots.{Writing}
+use Rattle.resolve.proofs.Slots.{Writing}
 use Rattle.binding.proofs.writing.write_types.Given as goal
 
 abbrev pub invariant-loop-place : goal.invariant-loop-place
