@@ -1,8 +1,8 @@
 -- The first of the entries that passes a test, from a place on.
 -- Assumes nothing.
-use Rattle.std.proofs.Common.{◌≡◌, ◌∙◌, ℕ, suc, ◌<◌, ◌≤◌, Bool, true, false, List, ◌∷◌, length, drop, slice_index_or, Some, None, Option, ap}
+use Rattle.std.proofs.Common.{◌≡◌, ◌∙◌, ℕ, suc, ◌<◌, ◌≤◌, Bool, true, false, List, [], ◌∷◌, ◌+◌, length, drop, slice_index_or, Some, None, Option, ap, arith}
 use Rattle.std.proofs.Math.Seq.{drop-cons}
-use Rattle.std.proofs.lemmas.List.{drop_all as drop_over}
+use Rattle.std.proofs.lemmas.List.{drop_all as drop_over, drop_more}
 use Rattle.life.specs.Calls.{Declared}
 use Rattle.life.specs.HostCalls.{meant_type}
 use Rattle.life.specs.Lists.{first_place}
@@ -31,3 +31,15 @@ module _ (test : Declared × Option ℕ → Bool) (host : List ℕ) (es : List T
 pub first_none : (test : Declared × Option ℕ → Bool) (host : List ℕ) (es : List TypeAsked) (leads : List (Option ℕ)) (place : ℕ) → length es ≤ place →
     first_place test place (led_from place (declared_by host (drop place es)) leads) ≡ None
 first_none test host es leads place over = ap (λ xs. first_place test place (led_from place (declared_by host xs) leads)) (drop_over place es over)
+
+-- what is left of the entries from a place on
+pub led_more : (host : List ℕ) (es : List TypeAsked) (leads : List (Option ℕ)) (d : TypeAsked) (place : ℕ) → place < length es →
+    led_from place (declared_by host (drop place es)) leads
+    ≡ (meant_type host (type_asked (slice_index_or es place d)), lead_at leads place) ∷ led_from (place + 1) (declared_by host (drop (place + 1) es)) leads
+led_more host es leads d place lt =
+    let x : Declared × Option ℕ = (meant_type host (type_asked (slice_index_or es place d)), lead_at leads place) in
+    let next : suc place ≡ place + 1 = omega arith in
+    ap (λ xs. led_from place (declared_by host xs) leads) (drop_more es place d lt) ∙ ap (λ j. x ∷ led_from j (declared_by host (drop (place + 1) es)) leads) next
+
+pub led_over : (host : List ℕ) (es : List TypeAsked) (leads : List (Option ℕ)) (place : ℕ) → length es ≤ place → led_from place (declared_by host (drop place es)) leads ≡ []
+led_over host es leads place over = ap (λ xs. led_from place (declared_by host xs) leads) (drop_over place es over)

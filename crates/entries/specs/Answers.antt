@@ -1,6 +1,6 @@
 -- What is left of an entry, and which OID it has, once a step is done.
 -- Assumes nothing.
-use Rattle.std.specs.Prelude.{ℕ, suc, Bool, false, not, ◌||◌, if◌then◌else◌, is_some, List, [], ◌∷◌, slice_get, Some, None, Option, option_and_then}
+use Rattle.std.specs.Prelude.{ℕ, suc, Bool, false, not, ◌||◌, if◌then◌else◌, is_some, List, [], ◌∷◌, map, slice_get, Some, None, Option, option_and_then}
 use Rattle.life.specs.Calls.{Declared, of_oid, of_name, array_of}
 use Rattle.entries.specs.declared.notes.Notes.{Notes}
 use Rattle.entries.specs.Notes.{leads_told}
@@ -27,6 +27,11 @@ led_from i (x ∷ xs) leads = (x, lead_at leads i) ∷ led_from (suc i) xs leads
 abbrev pub led : List ℕ → List TypeAsked → Notes → List (Declared × Option ℕ)
 led host entries n = led_from 0 (declared_by host entries) (leads_told n)
 
+-- an OID that may be there, as a number
+abbrev pub oid_or_zero : Option ℕ → ℕ
+oid_or_zero None = 0
+oid_or_zero (Some o) = o
+
 -- over the arrays that the book holds then
 module _ (arrays : ℕ → Option ℕ) where
   -- an OID that it asked for passes the test
@@ -43,3 +48,7 @@ module _ (arrays : ℕ → Option ℕ) where
 
   abbrev pub without_oid : (ℕ → Bool) → Declared → Option ℕ → Bool
   without_oid known x lead = not (is_some (oid_if known x lead))
+
+  -- what is written for each entry
+  abbrev pub all_written : (ℕ → Bool) → List (Declared × Option ℕ) → List ℕ
+  all_written known xs = map (λ (x : Declared × Option ℕ). oid_or_zero (oid_if known x.0 x.1)) xs

@@ -1,12 +1,13 @@
 // What a resolve answers once all that it found is in the book.
-ghost use Rattle.std.specs.Prelude.{◌≡◌, ℕ, List, option_and_then};
+ghost use Rattle.std.specs.Prelude.{◌≡◌, ℕ, ◌<◌, ◌≤◌, List, length, option_and_then};
 ghost use Rattle.book.specs.Book.{held_of};
 ghost use Rattle.book.specs.Held.{book_held};
 ghost use Rattle.catalog.specs.Catalog.{Catalog};
 ghost use Rattle.catalog.specs.Meaning.{oid_told};
-ghost use Rattle.entries.specs.Answers.{asked_for, if_passes, lead_at, led, oid_if, passes, without_oid};
+ghost use Rattle.entries.specs.Answers.{all_written, asked_for, if_passes, lead_at, led, oid_if, oid_or_zero, passes, without_oid};
 ghost use Rattle.entries.specs.Notes.{leads_told};
 ghost use Rattle.finds.specs.Finds.{ReadFrom, queue_of, reads_of};
+ghost use Rattle.life.specs.Buffers.{written_over};
 ghost use Rattle.life.specs.HostCalls.{meant_type};
 ghost use Rattle.life.specs.Lists.{first_place};
 ghost use Rattle.requests.specs.Asked.{type_asked};
@@ -145,4 +146,34 @@ pub(crate) fn first_without(
         }
     }
     None
+}
+
+// What is written for the entry at a place: 0 where it has no OID.
+fn written_at(notes: &Notes<'_>, book: &Book<'_>, entry: TypeAsked, place: usize) -> u32
+    ensures { (host : List ℕ) →
+        result ≡ oid_or_zero (oid_if (book_held (held_of book.now)).arrays (known_to book.now) (meant_type host (type_asked entry)) (lead_at (leads_told notes.now) place)) }
+{
+    match oid_at(notes, book, entry, place) {
+        Some(oid) => oid.0,
+        None => 0,
+    }
+}
+
+// Writes the OIDs of the entries over the buffer, from its start on: nothing where it is too short.
+pub(crate) fn write_oids(
+    notes: &Notes<'_>,
+    book: &Book<'_>,
+    entries: &[TypeAsked],
+    out: &mut [u32],
+)
+    ensures written { (host : List ℕ) → length entries.now ≤ length out.old →
+        out.new ≡ written_over (all_written (book_held (held_of book.now)).arrays (known_to book.now) (led host entries.now notes.now)) out.old }
+    ensures short { length out.old < length entries.now → out.new ≡ out.old }
+{
+    if entries.len() > out.len() {
+        return;
+    }
+    for (place, entry) in entries.iter().enumerate() {
+        out[place] = written_at(notes, book, *entry, place);
+    }
 }
