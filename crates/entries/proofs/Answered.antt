@@ -1,6 +1,6 @@
 -- What stands, or is noted, and the arrays of elements.
 -- Assumes nothing.
-use Rattle.std.proofs.Common.{◌≡◌, ℕ, Bool, true, false, not, ◌||◌, List, map, nat_eq, is_some, option_map, slice_get, Some, None, Option, MatchOption, sym, refl, ap, ◌∙◌, subst, ⊎_elim}
+use Rattle.std.proofs.Common.{◌≡◌, ℕ, Bool, true, false, not, ◌||◌, List, map, nat_eq, is_some, option_map, slice_get, Some, None, Option, MatchOption, sym, ap, ◌∙◌, subst}
 use Rattle.std.specs.Option.{option_or}
 use Rattle.std.proofs.lemmas.Bool.Decides.{Decides-eqb}
 use Rattle.std.proofs.lemmas.Option.{get_or_from_slice_get, slice_get_within}
@@ -12,7 +12,7 @@ use Rattle.life.specs.Lists.{is_in}
 use Rattle.life.specs.RoundOne.{link, spared}
 use Rattle.life.specs.Steps.{Book}
 use Rattle.life.specs.Walk.{answered}
-use Rattle.life.proofs.Lists.{mem_in, not_both, none_not_some}
+use Rattle.life.proofs.Lists.{mem_in, not_both}
 use Rattle.room.specs.Tables.{look_up}
 use Rattle.room.proofs.Additions.{map_mem}
 use Rattle.room.proofs.LookUp.{look_mem}

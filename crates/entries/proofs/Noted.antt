@@ -1,6 +1,6 @@
 -- What is noted of elements, looked up.
 -- Assumes nothing.
-use Rattle.std.proofs.Common.{◌≡◌, ℕ, ◌+◌, ◌<◌, Bool, true, false, cond, ◌||◌, List, [], ◌∷◌, ◌++◌, length, map, nat_eq, if◌then◌else◌, is_some, option_map, Some, None, Option, sym, refl, ap, ◌∙◌, subst, ⊎_elim, arith, length-append}
+use Rattle.std.proofs.Common.{◌≡◌, ℕ, ◌+◌, ◌<◌, Bool, true, false, cond, ◌||◌, List, [], ◌∷◌, ◌++◌, length, map, nat_eq, if◌then◌else◌, is_some, option_map, Some, None, Option, sym, refl, ap, ◌∙◌, ⊎_elim, arith, length-append}
 use Rattle.std.specs.Option.{option_or}
 use Rattle.std.proofs.lemmas.Bool.{cases_Bool, cond-false, cond-true}
 use Rattle.std.proofs.lemmas.Bool.Decides.{Decides-eqb}
@@ -12,7 +12,7 @@ use Rattle.life.specs.Lists.{is_in}
 use Rattle.life.proofs.Lists.{is_none_if, not_both}
 use Rattle.room.specs.Tables.{look_up}
 use Rattle.room.proofs.LookUp.{look_append}
-use Rattle.slots.specs.Slots.{Entry, filled}
+use Rattle.slots.specs.Slots.{Entry}
 use Rattle.slots.specs.Stack.{LentItems, Pushed, slots_lent}
 use Rattle.type_info.specs.declared.oid.Oid.{Oid}
 use Rattle.book.proofs.Put.{pushed_behind, taken}

@@ -120,7 +120,7 @@ module _ (c : Catalog) (t : Tables) (call : Call) (reads apart : List ℕ) where
           (split_option (d o)))
           (cases_Bool (is_in o reads))
 
-  linked_so : (e : ℕ) → look_up nat_eq all.arrays e ≡ option_or (b.arrays e) (cond (is_in e reads || is_in e apart) (array_link (c.rows e)) None)
+  pub linked_so : (e : ℕ) → look_up nat_eq all.arrays e ≡ option_or (b.arrays e) (cond (is_in e reads || is_in e apart) (array_link (c.rows e)) None)
   linked_so e =
       look_extended nat_eq Decides-eqb t.arrays (with_values (λ k. array_link (c.rows k)) (reads ++ apart)) e
       ∙ ap (option_or (b.arrays e))
