@@ -2,3 +2,4 @@ pub mod Tables
 pub mod Notes
 pub mod Asking
 pub mod Answers
+pub mod FirstRound

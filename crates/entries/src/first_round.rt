@@ -1,22 +1,29 @@
 // Round 1 of a resolve: for each entry where its name leads, and the rows that it bears on.
-ghost use Rattle.std.specs.Prelude.{◌≡◌, ◌<◌, ◌≤◌, ◌∷◌, ◌++◌, [], IfOk, length, map};
+ghost use Rattle.std.specs.Prelude.{◌≡◌, ◌<◌, ◌≤◌, ◌∷◌, ◌++◌, [], IfOk, None, Some, flat_map, length, map, slice_index_or};
 ghost use Rattle.book.specs.Book.{held_of};
 ghost use Rattle.book.specs.Held.{book_held};
-ghost use Rattle.catalog.specs.Meaning.{oid_told};
+ghost use Rattle.catalog.specs.Meaning.{links_told, oid_told, row_meaning};
 ghost use Rattle.entries.specs.Asking.{AllRead, CameTo, entry_lead, from_here};
+ghost use Rattle.entries.specs.FirstRound.{row_links};
 ghost use Rattle.entries.specs.Notes.{leads_told};
+ghost use Rattle.finds.specs.Finds.{queue_of, rows_of};
 ghost use Rattle.life.specs.HostCalls.{meant_type};
 ghost use Rattle.life.specs.Reading.{read_all, read_entries};
 ghost use Rattle.life.specs.RoundOne.{entry_asks, lead};
 ghost use Rattle.requests.specs.Asked.{declared_by, type_asked};
+ghost use Rattle.resolve.specs.Rounds.{with_all};
+ghost use Rattle.resolve.specs.Walks.{known_to};
 
 use crate::asking::{ask_element, ask_full};
 use crate::notes::Notes;
 use book::tables::Book;
+use catalog::few::Few;
 use catalog::questions::TypeCatalog;
+use catalog::row::Row;
 use faults::fill::FillFault;
 use finds::tables::Finds;
 use requests::asked::{TypeAsked, name_in};
+use resolve::reading::push_links;
 use type_info::oid::Oid;
 
 // The OID that a name leads to: the book's answer, or else the catalog's.
@@ -100,4 +107,38 @@ fn read_entries<C: TypeCatalog>(
         read_entry(finds, notes, book, catalog, opened, host, *entry)?;
     }
     Ok(())
+}
+
+// The links of a row: none where it is malformed.
+fn links_of(row: &Row) -> Few<Oid, 64>
+    ensures { links_told result ≡ row_links (Some (row_meaning row.now)) }
+{
+    match row.shape() {
+        Ok(shape) => shape.links,
+        Err(_) => Few::new(Oid(0)),
+    }
+}
+
+// The links of the row at a place, if there is one.
+fn links_at(finds: &Finds<'_>, place: usize) -> Few<Oid, 64>
+    ensures { links_told result ≡ row_links (slice_index_or (rows_of finds.now) place None) }
+{
+    let Some((_, row)) = finds.row_at(place) else {
+        return Few::new(Oid(0));
+    };
+    match row {
+        Some(row) => links_of(row),
+        None => Few::new(Oid(0)),
+    }
+}
+
+// Pushes the links of all rows that were read.
+fn push_found(finds: &mut Finds<'_>, book: &Book<'_>)
+    ensures queue { queue_of finds.new ≡ with_all (known_to book.now) (queue_of finds.old) (flat_map row_links (rows_of finds.old)) }
+    ensures rows { rows_of finds.new ≡ rows_of finds.old }
+{
+    for place in 0..finds.row_count() {
+        let links = links_at(finds, place);
+        push_links(finds, book, links.as_slice());
+    }
 }
