@@ -1,10 +1,12 @@
 // Round 1 of a resolve: for each entry where its name leads, and the rows that it bears on.
-ghost use Rattle.std.specs.Prelude.{◌≡◌, ◌<◌, ◌≤◌, ◌∷◌, ◌++◌, [], IfOk, None, Some, flat_map, length, map, slice_index_or};
+ghost use Rattle.std.specs.Prelude.{◌≡◌, ◌<◌, ◌≤◌, ◌∷◌, ◌++◌, [], IfOk, MatchResult, None, Some, flat_map, length, map, slice_index_or};
 ghost use Rattle.book.specs.Book.{held_of};
 ghost use Rattle.book.specs.Held.{book_held};
+ghost use Rattle.catalog.specs.Catalog.{Opened, Shut};
+ghost use Rattle.catalog.specs.declared.faults.CatalogFault.TheVariants.{NoAllowance as NoneLeft};
 ghost use Rattle.catalog.specs.Meaning.{links_told, oid_told, row_meaning};
 ghost use Rattle.entries.specs.Asking.{AllRead, CameTo, entry_lead, from_here};
-ghost use Rattle.entries.specs.FirstRound.{row_links};
+ghost use Rattle.entries.specs.FirstRound.{FirstHalted, FirstRead, FirstRefused, FirstTurned, Nothing, row_links};
 ghost use Rattle.entries.specs.Notes.{leads_told};
 ghost use Rattle.finds.specs.Finds.{queue_of, rows_of};
 ghost use Rattle.life.specs.HostCalls.{meant_type};
@@ -17,6 +19,7 @@ ghost use Rattle.resolve.specs.Walks.{known_to};
 use crate::asking::{ask_element, ask_full};
 use crate::notes::Notes;
 use book::tables::Book;
+use catalog::faults::CatalogFault;
 use catalog::few::Few;
 use catalog::questions::TypeCatalog;
 use catalog::row::Row;
@@ -141,4 +144,58 @@ fn push_found(finds: &mut Finds<'_>, book: &Book<'_>)
         let links = links_at(finds, place);
         push_links(finds, book, links.as_slice());
     }
+}
+
+// What an open round 1 asks for: all that the entries bear on. The links of what was read wait then.
+fn ask_first<C: TypeCatalog>(
+    finds: &mut Finds<'_>,
+    notes: &mut Notes<'_>,
+    book: &Book<'_>,
+    catalog: &C,
+    opened: &C::Round,
+    host: &[u8],
+    entries: &[TypeAsked],
+) -> Result<(), FillFault>
+    requires nothing { Nothing finds.old notes.old }
+    ensures read { let c = C.meaning catalog.now in let b = book_held (held_of book.now) in let ds = declared_by host.now entries.now in
+        MatchResult result (λ _. FirstRead c b ds finds.new notes.new) (λ fault. FirstHalted c b ds fault) }
+    ensures leads { IfOk result (λ _. length entries.now ≤ 256 →
+        leads_told notes.new ≡ map (entry_lead (C.meaning catalog.now) (book_held (held_of book.now))) (declared_by host.now entries.now)) }
+{
+    read_entries(finds, notes, book, catalog, opened, host, entries)?;
+    push_found(finds, book);
+    Ok(())
+}
+
+fn enter<C: TypeCatalog>(catalog: &mut C) -> Result<C::Round, CatalogFault>
+    ensures { MatchResult result
+        (λ _. Opened (C.meaning catalog.old) (C.meaning catalog.new))
+        (λ fault. (fault ≡ NoneLeft 1) × Shut (C.meaning catalog.old) (C.meaning catalog.new)) }
+{
+    match catalog.open() {
+        Ok(opened) => Ok(opened),
+        Err(_) => Err(CatalogFault::NoAllowance { round: 1 }),
+    }
+}
+
+// Round 1, whether it can be opened or not.
+pub(crate) fn first_round<C: TypeCatalog>(
+    finds: &mut Finds<'_>,
+    notes: &mut Notes<'_>,
+    book: &Book<'_>,
+    catalog: &mut C,
+    host: &[u8],
+    entries: &[TypeAsked],
+) -> Result<(), FillFault>
+    requires nothing { Nothing finds.old notes.old }
+    ensures turned { let c = C.meaning catalog.old in let d = C.meaning catalog.new in
+        let b = book_held (held_of book.now) in let ds = declared_by host.now entries.now in
+        MatchResult result (λ _. FirstTurned c d b ds finds.new notes.new) (λ fault. FirstRefused c d b ds fault) }
+    ensures leads { IfOk result (λ _. length entries.now ≤ 256 →
+        leads_told notes.new ≡ map (entry_lead (C.meaning catalog.old) (book_held (held_of book.now))) (declared_by host.now entries.now)) }
+{
+    let opened = enter(catalog)?;
+    let read = ask_first(finds, notes, book, catalog, &opened, host, entries);
+    catalog.close(opened);
+    read
 }
