@@ -16,6 +16,22 @@ use Rattle.entries.specs.declared.notes.Notes.{Notes}
 use Rattle.entries.specs.Asking.{AllRead, CameTo, entry_lead, from_here, read_told}
 use Rattle.entries.specs.Notes.{leads_told}
 
+-- where names lead, noted for one entry more
+pub one_lead :
+    (lead : Declared → Option ℕ) (host : List ℕ) (entries : List TypeAsked) (i : ℕ) (x : TypeAsked) → i < length entries → (m k : Notes) →
+    (length entries ≤ 256 → leads_told m ≡ map lead (declared_by host (take i entries))) →
+    (length (leads_told m) < 256 → leads_told k ≡ leads_told m ++ lead (meant_type host (type_asked (get_or entries i x))) ∷ []) →
+    length entries ≤ 256 → leads_told k ≡ map lead (declared_by host (take (i + 1) entries))
+one_lead lead host entries i x more m k so one few =
+    let meant : TypeAsked → Declared = λ y. meant_type host (type_asked y) in
+    let here : TypeAsked = get_or entries i x in
+    let long : length (leads_told m) ≡ i =
+    ap length (so few) ∙ length-map (declared_by host (take i entries)) lead ∙ length-map (take i entries) meant ∙ length-take-le i entries (omega arith) in
+    one (omega arith)
+    ∙ ap (λ ls. ls ++ lead (meant here) ∷ []) (so few)
+    ∙ sym (ap (map lead) (ap (map meant) (take_more entries i x more) ∙ map-append meant (take i entries) (here ∷ []))
+    ∙ map-append lead (map meant (take i entries)) (meant here ∷ []))
+
 module _ (c : Catalog) (b : Book) (host : List ℕ) (entries : List TypeAsked) where
   abbrev meant : TypeAsked → Declared
   meant x = meant_type host (type_asked x)
@@ -53,16 +69,7 @@ module _ (c : Catalog) (b : Book) (host : List ℕ) (entries : List TypeAsked) w
         entry_done came lead = record {
           on = then_left (Ok tt) came;
           all = came.all;
-          leads_so = λ few.
-              let long : length (leads_told m) ≡ i =
-              ap length (so.leads_so few)
-              ∙ length-map (declared_by host (take i entries)) (entry_lead c b)
-              ∙ length-map (take i entries) meant
-              ∙ length-take-le i entries (omega arith) in
-              lead (omega arith)
-              ∙ ap (λ ls. ls ++ entry_lead c b (meant here) ∷ []) (so.leads_so few)
-              ∙ sym (ap (map (entry_lead c b)) (ap (map meant) (take_more entries i x more) ∙ map-append meant (take i entries) (here ∷ []))
-              ∙ map-append (entry_lead c b) (map meant (take i entries)) (meant here ∷ []));
+          leads_so = one_lead (entry_lead c b) host entries i x more m k so.leads_so lead;
         }
 
         pub entry_halts : (fault : FillFault) → CameTo c (from_here (read_all c b (entry_asks c b (meant here))) g m) (Err fault) h k →

@@ -3,3 +3,5 @@ pub mod Notes
 pub mod Asking
 pub mod Answers
 pub mod FirstRound
+pub mod Wants
+pub mod Walked

@@ -6,3 +6,4 @@ pub mod asking;
 pub mod first_round;
 pub mod notes;
 pub mod noting;
+pub mod walking;
