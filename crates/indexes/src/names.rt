@@ -74,6 +74,19 @@ impl<'a, V: Copy> NameIndex<'a, V> {
         self.text.lent()
     }
 
+    // Takes every name out, and the text that they lay in.
+    pub fn clear(&mut self)
+        ensures holds { (q : List ℕ) → known self.new q ≡ None }
+        ensures count { filled self.new.slots ≡ 0 }
+        ensures size { length self.new.slots ≡ length self.old.slots }
+        ensures text { self.new.text.text ≡ [] }
+        ensures lent { lent self.new.text ≡ lent self.old.text }
+    {
+        self.text.clear();
+        self.map.clear::<Name>();
+        self.count = 0;
+    }
+
     // Lays bytes behind the text, where there is room, and adds no name.
     pub fn append(&mut self, bytes: &[u8]) -> Option<Span>
         ensures slots { self.new.slots ≡ self.old.slots }

@@ -43,6 +43,14 @@ impl<'a> Text<'a> {
         self.bytes.len()
     }
 
+    // Takes the whole text out. All lent bytes are spare then.
+    pub fn clear(&mut self)
+        ensures text { self.new.text ≡ [] }
+        ensures lent { lent self.new ≡ lent self.old }
+    {
+        self.used = 0;
+    }
+
     // Lays bytes behind the text, unless they do not fit: then nothing changes.
     pub fn append(&mut self, bytes: &[u8]) -> Option<Span>
         ensures room { lent self.new ≡ lent self.old }
