@@ -11,7 +11,7 @@ use Rattle.unfolding.specs.Unfolding.{Tree}
 use Rattle.life.specs.Steps.{Book}
 use Rattle.life.proofs.Lists.{is_none_if}
 use Rattle.room.specs.Added.{new_by}
-use Rattle.room.specs.Sizes.{AllFits, Sizes, sizes_of}
+use Rattle.room.specs.Sizes.{AllFits, Sizes, first_full, sizes_of}
 use Rattle.room.specs.Tables.{Tables, extended, look_up, no_tables}
 use Rattle.room.proofs.Extended.{extended_assoc, extended_none}
 use Rattle.room.proofs.Fitting.{first_full_law}
@@ -34,7 +34,7 @@ of_arrays es = record no_tables { arrays = es }
 
 -- the capacity stays
 module _ where
-  chosen : (b : Bool) (g h : Held) → g.capacity ≡ h.capacity → (if b then g else h).capacity ≡ h.capacity
+  pub chosen : (b : Bool) (g h : Held) → g.capacity ≡ h.capacity → (if b then g else h).capacity ≡ h.capacity
   chosen true g h e = e
   chosen false g h e = refl
 
@@ -50,7 +50,7 @@ module _ where
   name_capacity h None = refl
   name_capacity h (Some x) = chosen (adds_name h x.1.pretty) (with_name h x.1.pretty x.0) h refl
 
-  link_capacity : (h : Held) (e : ℕ) (a : Option ℕ) → (link_kept h e a).capacity ≡ h.capacity
+  pub link_capacity : (h : Held) (e : ℕ) (a : Option ℕ) → (link_kept h e a).capacity ≡ h.capacity
   link_capacity h e None = refl
   link_capacity h e (Some a) = chosen (adds_array h e) (with_array h e a) h refl
 
@@ -73,8 +73,11 @@ all_fit capacity taken added f (suc (suc (suc (suc (suc zero))))) l = f.columns
 all_fit capacity taken added f (suc (suc (suc (suc (suc (suc zero)))))) l = f.relations
 all_fit capacity taken added f (suc (suc (suc (suc (suc (suc (suc i))))))) l = absurd (omega arith)
 
+pub fits_none : (capacity taken added : Sizes) → Fits (sum_of taken added) capacity → first_full capacity taken added ≡ None
+fits_none capacity taken added f = (first_full_law capacity taken added).1.1 (all_fit capacity taken added f)
+
 pub fits_room : (h : Held) (more : Sizes) → Fits (sum_of h.taken more) h.capacity → has_room h more ≡ true
-fits_room h more f = ap (λ (v : Option ℕ). not (is_some v)) ((first_full_law h.capacity h.taken more).1.1 (all_fit h.capacity h.taken more f))
+fits_room h more f = ap (λ (v : Option ℕ). not (is_some v)) (fits_none h.capacity h.taken more f)
 
 -- tables fit where they fit with more
 pub fits_first : (t more : Tables) (capacity : Sizes) → Fits (sizes_of (extended t more)) capacity → Fits (sizes_of t) capacity
@@ -117,48 +120,56 @@ size_one_name n o =
 
 -- names are taken in one after the other
 module _ where
-  name_left : (h : Held) (x : Find) → is_some (h.names x.1.pretty) ≡ true → name_kept h (Some x) ≡ h
-  name_left h x e = ap (λ v. if not v && has_room h (size_of_name x.1.pretty) then with_name h x.1.pretty x.0 else h) e
+  abbrev pub named_kept : Held → Name × ℕ → Held
+  named_kept h x = if adds_name h x.0 then with_name h x.0 x.1 else h
 
-  name_added : (h : Held) (x : Find) → is_some (h.names x.1.pretty) ≡ false → has_room h (size_of_name x.1.pretty) ≡ true → name_kept h (Some x) ≡ with_name h x.1.pretty x.0
-  name_added h x e room = λ i. if not (e i) && room i then with_name h x.1.pretty x.0 else h
+  name_left : (h : Held) (x : Name × ℕ) → is_some (h.names x.0) ≡ true → named_kept h x ≡ h
+  name_left h x e = ap (λ v. if not v && has_room h (size_of_name x.0) then with_name h x.0 x.1 else h) e
 
-  abbrev pub new_names : Tables → List (Option Find) → Tables
-  new_names t xs = of_names (new_by bytes_eq t.names (names_in xs))
+  name_added : (h : Held) (x : Name × ℕ) → is_some (h.names x.0) ≡ false → has_room h (size_of_name x.0) ≡ true → named_kept h x ≡ with_name h x.0 x.1
+  name_added h x e room = λ i. if not (e i) && room i then with_name h x.0 x.1 else h
 
-  abbrev pub NamesKept : Held → Tables → List (Option Find) → Type 0
-  NamesKept h t xs = Fits (sizes_of (extended t (new_names t xs))) h.capacity → Stands (each name_kept h xs) (extended t (new_names t xs))
+  abbrev pub names_new : Tables → List (Name × ℕ) → Tables
+  names_new t xs = of_names (new_by bytes_eq t.names xs)
 
-  pub names_kept : (xs : List (Option Find)) (h : Held) (t : Tables) → Stands h t → NamesKept h t xs
-  names_kept [] h t s fits = subst (Stands h) (sym (extended_none t)) s
-  names_kept (None ∷ xs) h t s fits = names_kept xs h t s fits
-  names_kept (Some x ∷ xs) h t s fits =
+  pub named_all : (xs : List (Name × ℕ)) (h : Held) (t : Tables) → Stands h t → Fits (sizes_of (extended t (names_new t xs))) h.capacity → Stands (each named_kept h xs) (extended t (names_new t xs))
+  named_all [] h t s fits = subst (Stands h) (sym (extended_none t)) s
+  named_all (x ∷ xs) h t s fits =
       ⊎_elim
       (λ y.
-      let same : new_names t (Some x ∷ xs) ≡ new_names t xs = ap of_names (new_held bytes_eq bytes_eq-Decides t.names entry (names_in xs) (held_so ∙ y)) in
-      let left : each name_kept h (Some x ∷ xs) ≡ each name_kept h xs = ap (λ (g : Held). each name_kept g xs) (name_left h x y) in
-      subst (λ (g : Held). Stands g (extended t (new_names t (Some x ∷ xs)))) (sym left)
-      (subst (λ (u : Tables). Stands (each name_kept h xs) (extended t u)) (sym same)
-      (names_kept xs h t s (subst (λ (u : Tables). Fits (sizes_of (extended t u)) h.capacity) same fits))))
+      let same : names_new t (x ∷ xs) ≡ names_new t xs = ap of_names (new_held bytes_eq bytes_eq-Decides t.names x xs (held_so ∙ y)) in
+      let left : each named_kept h (x ∷ xs) ≡ each named_kept h xs = ap (λ (g : Held). each named_kept g xs) (name_left h x y) in
+      subst (λ (g : Held). Stands g (extended t (names_new t (x ∷ xs)))) (sym left)
+      (subst (λ (u : Tables). Stands (each named_kept h xs) (extended t u)) (sym same)
+      (named_all xs h t s (subst (λ (u : Tables). Fits (sizes_of (extended t u)) h.capacity) same fits))))
       (λ y.
-      let one = one_name x.1.pretty x.0 in
+      let one = one_name x.0 x.1 in
       let next : Tables = extended t one in
-      let split : new_names t (Some x ∷ xs) ≡ extended one (new_names next xs) =
-      ap of_names (new_one bytes_eq bytes_eq-Decides t.names entry (names_in xs) (held_so ∙ y)) in
+      let split : names_new t (x ∷ xs) ≡ extended one (names_new next xs) =
+      ap of_names (new_one bytes_eq bytes_eq-Decides t.names x xs (held_so ∙ y)) in
       let fits_so = subst (λ (u : Tables). Fits (sizes_of (extended t u)) h.capacity) split fits in
-      let room = fits_room h (size_of_name x.1.pretty) (subst (λ (z : Sizes). Fits (sum_of h.taken z) h.capacity) (size_one_name x.1.pretty x.0) (one_fits h t s one (new_names next xs) fits_so)) in
-      let g : Held = with_name h x.1.pretty x.0 in
-      let put : each name_kept h (Some x ∷ xs) ≡ each name_kept g xs = ap (λ (k : Held). each name_kept k xs) (name_added h x y room) in
-      let rest = names_kept xs g next (stands_name h t s x.1.pretty x.0 (is_none_if (h.names x.1.pretty) y)) (fits_on h t s one (new_names next xs) fits_so) in
-      subst (λ (k : Held). Stands k (extended t (new_names t (Some x ∷ xs)))) (sym put)
-      (subst (Stands (each name_kept g xs)) (extended_assoc t one (new_names next xs) ∙ ap (extended t) (sym split)) rest))
-      (cases_Bool (is_some (h.names x.1.pretty)))
+      let room = fits_room h (size_of_name x.0) (subst (λ (z : Sizes). Fits (sum_of h.taken z) h.capacity) (size_one_name x.0 x.1) (one_fits h t s one (names_new next xs) fits_so)) in
+      let g : Held = with_name h x.0 x.1 in
+      let put : each named_kept h (x ∷ xs) ≡ each named_kept g xs = ap (λ (k : Held). each named_kept k xs) (name_added h x y room) in
+      let rest = named_all xs g next (stands_name h t s x.0 x.1 (is_none_if (h.names x.0) y)) (fits_on h t s one (names_new next xs) fits_so) in
+      subst (λ (k : Held). Stands k (extended t (names_new t (x ∷ xs)))) (sym put)
+      (subst (Stands (each named_kept g xs)) (extended_assoc t one (names_new next xs) ∙ ap (extended t) (sym split)) rest))
+      (cases_Bool (is_some (h.names x.0)))
     where
-      entry : Name × ℕ
-      entry = (x.1.pretty, x.0)
+      held_so : is_some (look_up bytes_eq t.names x.0) ≡ is_some (h.names x.0)
+      held_so = ap (λ (b : Book). is_some (b.names x.0)) s.book
 
-      held_so : is_some (look_up bytes_eq t.names x.1.pretty) ≡ is_some (h.names x.1.pretty)
-      held_so = ap (λ (b : Book). is_some (b.names x.1.pretty)) s.book
+  -- those of finds among them
+  abbrev pub new_names : Tables → List (Option Find) → Tables
+  new_names t xs = names_new t (names_in xs)
+
+  each_name : (xs : List (Option Find)) (h : Held) → each name_kept h xs ≡ each named_kept h (names_in xs)
+  each_name [] h = refl
+  each_name (None ∷ xs) h = each_name xs h
+  each_name (Some x ∷ xs) h = each_name xs (name_kept h (Some x))
+
+  pub names_kept : (xs : List (Option Find)) (h : Held) (t : Tables) → Stands h t → Fits (sizes_of (extended t (new_names t xs))) h.capacity → Stands (each name_kept h xs) (extended t (new_names t xs))
+  names_kept xs h t s fits = subst (λ (g : Held). Stands g (extended t (new_names t xs))) (sym (each_name xs h)) (named_all (names_in xs) h t s fits)
 
 -- and so are array links
 module _ where

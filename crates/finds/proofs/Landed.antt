@@ -10,7 +10,7 @@ use Rattle.catalog.specs.Catalog.{Catalog, Laws}
 use Rattle.catalog.specs.Shape.{Name}
 use Rattle.unfolding.specs.Lists.{Mem}
 use Rattle.unfolding.specs.Unfolding.{Tree}
-use Rattle.life.specs.Calls.{Call, array_link}
+use Rattle.life.specs.Calls.{Call, array_link, fill}
 use Rattle.life.specs.InTurn.{InTurn}
 use Rattle.life.specs.Keep.{if_settled}
 use Rattle.life.specs.Lists.{is_in}
@@ -133,6 +133,12 @@ module _ (c : Catalog) (laws : Laws c) (f : Finds) (from : ReadFrom c f) (t : Ta
 
   same_names : (x : Name × ℕ) → Mem x found.names ↔ Mem x by_law.names
   same_names x = subst (λ l. Mem x (new_by bytes_eq t.names l) ↔ Mem x by_law.names) (sym names_found) (same_named x)
+
+  -- so they lead to the same
+  pub names_looked : (n : Name) → look_up bytes_eq (types_added c t (fill []) reads []).names n ≡ look_up bytes_eq (new_by bytes_eq t.names (names_in (map (by_row c) order))) n
+  names_looked n =
+      ap (λ (u : Tables). look_up bytes_eq u.names n) (law_so (fill []) refl)
+      ∙ sym (look_alike bytes_eq bytes_eq-Decides found.names by_law.names (new_alone bytes_eq bytes_eq-Decides _ t.names) (new_alone bytes_eq bytes_eq-Decides _ t.names) same_names n)
 
   same_arrays : found.arrays ≡ by_law.arrays
   same_arrays = ap (new_by nat_eq t.arrays) (links_so c reads)

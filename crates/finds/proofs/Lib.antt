@@ -13,3 +13,8 @@ pub mod Counted
 pub mod Landed
 pub mod Related
 pub mod Counts
+pub mod Leads
+pub mod Named
+pub mod NewLeads
+pub mod Enough
+pub mod Resolved

@@ -1,6 +1,6 @@
 -- What is new to entries that are held, entry by entry.
 -- Assumes nothing.
-use Rattle.std.proofs.Common.{◌≡◌, Bool, true, false, cond, ◌||◌, ◌↔◌, List, [], ◌∷◌, ◌++◌, is_some, Some, None, Decides, Option, sym, refl, ap, ◌∙◌, subst, inl, inr, ⊎_elim}
+use Rattle.std.proofs.Common.{◌≡◌, Bool, true, false, cond, ◌||◌, ◌↔◌, List, [], ◌∷◌, ◌++◌, is_some, Some, None, Decides, Option, sym, refl, ap, ◌∙◌, subst, inl, inr, ⊎_elim, append-nil, append_assoc}
 use Rattle.std.proofs.lemmas.Bool.{cases_Bool, cond-true, or_from, or_left}
 use Rattle.std.specs.List.{list_any}
 use Rattle.std.specs.Option.{option_or}
@@ -16,7 +16,7 @@ same_option None None f g = refl
 same_option None (Some b) f g = g b refl
 same_option (Some a) y f g = sym (f a refl)
 
-or_put : (x y u v : Bool) → (x || u) ≡ (y || v) → (b : Bool) → (x || (b || u)) ≡ (y || (b || v))
+pub or_put : (x y u v : Bool) → (x || u) ≡ (y || v) → (b : Bool) → (x || (b || u)) ≡ (y || (b || v))
 or_put x y u v e false = e
 or_put true true u v e true = refl
 or_put true false u v e true = refl
@@ -82,6 +82,26 @@ module _ {K V : Type 0} (same : K → K → Bool) (tells : (x y : K) → Decides
         where
           other : (k : K) → Mem k (keys xs) → same k x.0 ≡ false
           other k m = ⊎_elim (λ t. absurd (apart (subst (λ j. Mem j (keys xs)) ((tells k x.0).0 t) m))) (λ n. n) (cases_Bool (same k x.0))
+
+  -- what is new goes by which keys are held
+  pub new_alike : (held held' xs : List (K × V)) → ((k : K) → Mem k (keys xs) → is_some (look_up same held k) ≡ is_some (look_up same held' k)) →
+      new_by same held xs ≡ new_by same held' xs
+  new_alike held held' xs e = news_alike xs held [] held' [] (λ k m. ap (λ v. v || false) (e k m))
+
+  -- the first of two lists may be held before the second is looked at
+  pub new_append : (xs ys held : List (K × V)) → new_by same held (xs ++ ys) ≡ new_by same held xs ++ new_by same (held ++ new_by same held xs) ys
+  new_append [] ys held = ap (λ l. new_by same l ys) (sym (append-nil held))
+  new_append (x ∷ xs) ys held =
+      let more = held ++ x ∷ [] in
+      let rest = new_by same more xs in
+      ⊎_elim
+      (λ t. new_held held x (xs ++ ys) t ∙ new_append xs ys held ∙ ap (λ l. l ++ new_by same (held ++ l) ys) (sym (new_held held x xs t)))
+      (λ n.
+      new_one held x (xs ++ ys) n
+      ∙ ap (λ l. x ∷ l) (new_append xs ys more)
+      ∙ ap (λ l. x ∷ (rest ++ new_by same l ys)) (append_assoc held (x ∷ []) rest)
+      ∙ ap (λ l. l ++ new_by same (held ++ l) ys) (sym (new_one held x xs n)))
+      (cases_Bool (is_some (look_up same held x.0)))
 
   -- it has each key once
   pub new_alone : (xs held : List (K × V)) → Once (new_by same held xs)

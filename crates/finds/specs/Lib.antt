@@ -3,3 +3,4 @@ pub mod Finds
 pub mod Passes
 pub mod Keeping
 pub mod Columns
+pub mod Resolving

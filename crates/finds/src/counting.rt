@@ -111,6 +111,7 @@ impl<'a> Finds<'a> {
         ensures added { (c : Catalog) → Laws c → ReadFrom c self.now → SettledBy c (book_held (held_of book.now)).descriptors self.now →
             (t : Tables) → Stands (held_of book.now) t → (call : Call) → declared_names call ≡ [] →
             sizes_told result ≡ sizes_of (types_added c t call (reads_of self.now) []) }
+        ensures few { FewOf 8388608 (sizes_told result) }
     {
         plus(self.settled_sizes(book), self.array_sizes(book))
     }

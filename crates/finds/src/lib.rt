@@ -3,6 +3,7 @@
 
 pub mod columns;
 pub mod counting;
+pub mod declared;
 pub mod keeping;
 pub mod making;
 pub mod memory;

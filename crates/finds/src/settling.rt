@@ -20,7 +20,7 @@ use type_info::oid::Oid;
 
 impl<'a> Finds<'a> {
     // Whether the OID is built in, described by the book, or settled in this step.
-    fn is_known(&self, book: &Book<'_>, oid: Oid) -> bool
+    pub(crate) fn is_known(&self, book: &Book<'_>, oid: Oid) -> bool
         ensures { result ≡ known_so (book_held (held_of book.now)).descriptors (order_of self.now) oid.0 }
     {
         book.knows(oid) || self.settled.find(oid).is_some()
