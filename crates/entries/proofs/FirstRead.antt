@@ -1,12 +1,12 @@
 -- The loop over the entries comes to the lists of round 1.
 -- Assumes nothing.
-use Rattle.std.proofs.Common.{◌≡◌, ℕ, ◌-◌, List, [], length, map, flat_map, Ok, Err, sym, refl, ap, ◌∙◌}
+use Rattle.std.proofs.Common.{◌≡◌, ℕ, ◌-◌, List, length, map, flat_map, Ok, Err, sym, ap, ◌∙◌}
 use Rattle.catalog.specs.Catalog.{Catalog}
 use Rattle.life.specs.Calls.{Declared}
-use Rattle.life.specs.Reading.{Read, reading, halted, read_entries, summed}
-use Rattle.life.specs.RoundOne.{Question, asked_in_full, asked_oid, for_arrays_alone, refusable, round_one}
+use Rattle.life.specs.Reading.{reading, halted, read_entries, summed}
+use Rattle.life.specs.RoundOne.{asked_in_full, asked_oid, for_arrays_alone, refusable, round_one}
 use Rattle.life.specs.Steps.{Book}
-use Rattle.life.specs.Walk.{Asked, all_read, stop, answered, ask_each, links_of}
+use Rattle.life.specs.Walk.{Asked, all_read, stop, answered, ask_each}
 use Rattle.life.proofs.Reading.{reading_law}
 use Rattle.finds.specs.declared.tables.Finds.{Finds}
 use Rattle.finds.specs.Finds.{queue_of, rows_of}
@@ -15,7 +15,7 @@ use Rattle.resolve.specs.Rounds.{with_all}
 use Rattle.entries.specs.declared.notes.Notes.{Notes}
 use Rattle.entries.specs.Asking.{AllRead, CameTo, from_here, rows_left, with_link}
 use Rattle.entries.specs.FirstRound.{FirstHalted, FirstRead, Nothing, row_links}
-use Rattle.entries.specs.Notes.{apart_of, apart_told, leads_told}
+use Rattle.entries.specs.Notes.{apart_of, apart_told}
 use Rattle.entries.proofs.InRows.{links_from}
 
 -- where nothing was read, nothing stands without its row, and nothing is noted

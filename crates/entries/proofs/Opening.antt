@@ -1,6 +1,6 @@
 -- Round 1 opened, and the walk behind it.
 -- Assumes nothing.
-use Rattle.std.proofs.Common.{◌≡◌, ℕ, suc, ◌-◌, ◌<◌, ◌≤◌, Bool, List, [], ◌++◌, length, map, take, drop, IfOk, MatchResult, Ok, Err, Result, Option, sym, refl, ap, ◌∙◌, subst, arith}
+use Rattle.std.proofs.Common.{◌≡◌, ℕ, suc, ◌-◌, ◌≤◌, Bool, List, ◌++◌, length, map, take, drop, IfOk, MatchResult, Ok, Err, Result, Option, sym, refl, ap, ◌∙◌, subst, arith}
 use Rattle.std.proofs.lemmas.List.{drop_at, length-map, take_at}
 use Rattle.catalog.specs.Catalog.{Catalog, Opened, Shut, Spent, spent}
 use Rattle.catalog.specs.Meaning.{row_told}
@@ -8,15 +8,15 @@ use Rattle.catalog.specs.Shape.{formed}
 use Rattle.catalog.specs.declared.faults.CatalogFault.TheVariants.{NoAllowance}
 use Rattle.life.specs.Calls.{Declared}
 use Rattle.life.specs.Lists.{fresh}
-use Rattle.life.specs.RoundOne.{Question, asked_in_full, asked_oid, first_opened, for_arrays_alone, refusable, round_one}
+use Rattle.life.specs.RoundOne.{Question, asked_in_full, asked_oid, first_opened, refusable, round_one}
 use Rattle.life.specs.Steps.{Book}
 use Rattle.life.specs.Walk.{Asked, answered, ask_each, links_of, and_then, stopped, walk}
 use Rattle.finds.specs.declared.tables.Finds.{Finds}
-use Rattle.finds.specs.Finds.{ReadFrom, queue_of, reads_of, rows_of}
+use Rattle.finds.specs.Finds.{queue_of, reads_of, rows_of}
 use Rattle.faults.specs.declared.fill.FillFault.{FillFault}
 use Rattle.faults.specs.declared.fill.FillFault.TheVariants.{Catalog as OfCatalog}
 use Rattle.faults.specs.Faults.{refusal_of}
-use Rattle.resolve.specs.Walks.{waiting_of, walk_at}
+use Rattle.resolve.specs.Walks.{waiting_of}
 use Rattle.resolve.proofs.Cut.{with_behind}
 use Rattle.resolve.proofs.Turns.{walk_cut, walk_spent}
 use Rattle.entries.specs.declared.notes.Notes.{Notes}

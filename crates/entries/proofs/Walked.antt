@@ -1,6 +1,6 @@
 -- The rounds of a resolve, from round 1 on.
 -- Assumes nothing.
-use Rattle.std.proofs.Common.{◌≡◌, ℕ, ◌-◌, ◌≤◌, List, length, map, IfOk, Ok, Err, Result, sym, refl, ap, ◌∙◌, subst, arith}
+use Rattle.std.proofs.Common.{◌≡◌, ℕ, ◌-◌, ◌≤◌, List, length, IfOk, Ok, Err, Result, sym, ap, ◌∙◌, subst, arith}
 use Rattle.catalog.specs.Catalog.{Catalog, Opened, Spent, spent}
 use Rattle.life.specs.Calls.{Declared}
 use Rattle.life.specs.RoundOne.{first_opened, round_one}
@@ -9,7 +9,6 @@ use Rattle.life.specs.Walk.{answered}
 use Rattle.finds.specs.declared.tables.Finds.{Finds}
 use Rattle.finds.specs.Finds.{ReadFrom, queue_of, reads_of}
 use Rattle.faults.specs.declared.fill.FillFault.{FillFault}
-use Rattle.faults.specs.Faults.{refusal_of}
 use Rattle.resolve.specs.Walks.{outcome, rounds_told, walk_at}
 use Rattle.entries.specs.declared.notes.Notes.{Notes}
 use Rattle.entries.specs.FirstRound.{FirstRefused, FirstTurned}

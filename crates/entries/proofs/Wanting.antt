@@ -1,6 +1,6 @@
 -- Whether anything stands in round 1, by what the book holds alone.
 -- Assumes nothing.
-use Rattle.std.proofs.Common.{◌≡◌, ℕ, Bool, true, false, not, ◌||◌, List, [], ◌∷◌, ◌++◌, map, is_some, flat_map, Some, None, Option, sym, refl, ap, ◌∙◌, ⊎_elim}
+use Rattle.std.proofs.Common.{◌≡◌, ℕ, Bool, true, false, not, ◌||◌, List, [], ◌∷◌, map, is_some, Some, None, Option, sym, refl, ap, ◌∙◌, ⊎_elim}
 use Rattle.std.specs.List.{list_any}
 use Rattle.std.specs.Option.{option_and_then, option_or}
 use Rattle.std.proofs.lemmas.Bool.{cases_Bool, or_parts}
@@ -11,7 +11,7 @@ use Rattle.life.specs.HostCalls.{meant_type}
 use Rattle.life.specs.RoundOne.{Question, in_full, for_array, any_question, asked_once, asks_name, all_asks, element_asks, entry_asks, first_opened, for_arrays_alone, in_full_if, resolve_walk, round_one, spared}
 use Rattle.life.specs.Steps.{Book}
 use Rattle.life.specs.Walk.{answered, ended}
-use Rattle.life.proofs.Lists.{chosen_true, chosen_false, not_both}
+use Rattle.life.proofs.Lists.{chosen_true, chosen_false}
 use Rattle.requests.specs.Asked.{declared_by, type_asked}
 use Rattle.requests.specs.declared.asked.TypeAsked.{TypeAsked}
 use Rattle.entries.specs.Asking.{entry_lead}

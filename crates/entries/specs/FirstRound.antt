@@ -15,7 +15,7 @@ use Rattle.faults.specs.Faults.{refusal_of}
 use Rattle.resolve.specs.Rounds.{with_all}
 use Rattle.resolve.specs.Walks.{stop_told, stopped_told, walk_at}
 use Rattle.entries.specs.declared.notes.Notes.{Notes}
-use Rattle.entries.specs.Asking.{rows_left, with_link}
+use Rattle.entries.specs.Asking.{with_link}
 use Rattle.entries.specs.Notes.{apart_told, leads_told}
 
 -- nothing was found or noted

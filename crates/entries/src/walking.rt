@@ -1,5 +1,5 @@
 // The rounds of a resolve: nothing is asked where the book answers all entries, and else round 1 is opened, and the rounds after it.
-ghost use Rattle.std.specs.Prelude.{◌≡◌, ◌≤◌, ◌-◌, [], IfOk, length, map};
+ghost use Rattle.std.specs.Prelude.{◌≡◌, ◌≤◌, [], IfOk, length, map};
 ghost use Rattle.std.specs.List.{list_any};
 ghost use Rattle.std.specs.Option.{option_and_then};
 ghost use Rattle.book.specs.Book.{held_of};
