@@ -1,5 +1,5 @@
 // What a resolve answers once all that it found is in the book.
-ghost use Rattle.std.specs.Prelude.{◌≡◌, ℕ, ◌<◌, ◌≤◌, List, length, option_and_then};
+ghost use Rattle.std.specs.Prelude.{◌≡◌, ℕ, ◌<◌, ◌≤◌, IfSome, List, length, option_and_then};
 ghost use Rattle.book.specs.Book.{held_of};
 ghost use Rattle.book.specs.Held.{book_held};
 ghost use Rattle.catalog.specs.Catalog.{Catalog};
@@ -114,13 +114,14 @@ fn lacks_oid_at(notes: &Notes<'_>, book: &Book<'_>, entry: TypeAsked, place: usi
 }
 
 // The place of the first entry with such an OID.
-pub(crate) fn first_unresolved(
+pub fn first_unresolved(
     finds: &Finds<'_>,
     notes: &Notes<'_>,
     book: &Book<'_>,
     entries: &[TypeAsked],
 ) -> Option<usize>
-    ensures { (c : Catalog) → ReadFrom c finds.now → reads_of finds.now ≡ queue_of finds.now → (host : List ℕ) →
+    ensures below { IfSome result (λ place. place < length entries.now) }
+    ensures first { (c : Catalog) → ReadFrom c finds.now → reads_of finds.now ≡ queue_of finds.now → (host : List ℕ) →
         result ≡ first_place (λ x. asked_for (book_held (held_of book.now)).arrays (left_over c (known_to book.now) (reads_of finds.now)) x.0 x.1) 0 (led host entries.now notes.now) }
 {
     for (place, entry) in entries.iter().enumerate() {
@@ -132,12 +133,13 @@ pub(crate) fn first_unresolved(
 }
 
 // The place of the first entry without an OID.
-pub(crate) fn first_without(
+pub fn first_without(
     notes: &Notes<'_>,
     book: &Book<'_>,
     entries: &[TypeAsked],
 ) -> Option<usize>
-    ensures { (host : List ℕ) →
+    ensures below { IfSome result (λ place. place < length entries.now) }
+    ensures first { (host : List ℕ) →
         result ≡ first_place (λ x. without_oid (book_held (held_of book.now)).arrays (known_to book.now) x.0 x.1) 0 (led host entries.now notes.now) }
 {
     for (place, entry) in entries.iter().enumerate() {
@@ -160,7 +162,7 @@ fn written_at(notes: &Notes<'_>, book: &Book<'_>, entry: TypeAsked, place: usize
 }
 
 // Writes the OIDs of the entries over the buffer, from its start on: nothing where it is too short.
-pub(crate) fn write_oids(
+pub fn write_oids(
     notes: &Notes<'_>,
     book: &Book<'_>,
     entries: &[TypeAsked],
