@@ -1,10 +1,10 @@
 -- A table of names that is large enough for entries, and how large that is.
 -- Assumes nothing.
-use Rattle.std.proofs.Common.{◌≡◌, ℕ, ◌+◌, ◌*◌, ◌≤◌, Bool, true, false, ◌&&◌, ◌||◌, List, [], ◌∷◌, ◌++◌, length, map, min, nat_le, flat_map, Some, None, Option, sym, refl, ap, ◌∙◌, subst, inl, inr, ⊎_elim, arith}
+use Rattle.std.proofs.Common.{◌≡◌, ℕ, ◌+◌, ◌*◌, ◌≤◌, Bool, true, ◌&&◌, ◌||◌, List, [], ◌∷◌, length, min, nat_le, Some, None, Option, sym, refl, ap, subst, inl, inr, ⊎_elim, arith}
 use Rattle.std.specs.List.{cons_option, list_any}
 use Rattle.std.proofs.Math.Nat.{le-min, min-le_left, min-le_right}
 use Rattle.std.proofs.lemmas.Bool.{and_from, and_parts, cases_Bool, le-leb, leb-true}
-use Rattle.std.proofs.lemmas.List.Sums.{sum_by-append, sum_by-cons}
+use Rattle.std.proofs.lemmas.List.Sums.{sum_by-cons}
 use Rattle.catalog.specs.Shape.{Name}
 use Rattle.type_info.specs.declared.oid.Oid.{Oid}
 use Rattle.indexes.specs.Known.{Names}
@@ -14,9 +14,9 @@ use Rattle.unfolding.specs.Lists.{Mem}
 use Rattle.life.specs.Calls.{Declared, array_of, of_name, of_oid, resolve}
 use Rattle.life.specs.Lists.{fresh_by}
 use Rattle.life.proofs.Lists.{chosen_false, chosen_true}
-use Rattle.room.specs.Added.{declared_names, entry_names}
+use Rattle.room.specs.Added.{declared_names}
 use Rattle.room.specs.Sizes.{Sizes, bytes}
-use Rattle.book.specs.Held.{FewOf, Held, size_of_name}
+use Rattle.book.specs.Held.{FewOf, Held}
 use Rattle.finds.specs.declared.tables.Finds.{Finds}
 use Rattle.finds.specs.Keeping.{size_of_all}
 use Rattle.finds.specs.Resolving.{Lead, RoomForAll, declared_bytes, enough, entry_name, lead_bytes, lead_if, lead_size, leads_of, left_out, name_length, new_leads, same_name}

@@ -1,20 +1,18 @@
 -- Names counted one after the other, in a table of those that were.
 -- Assumes nothing.
-use Rattle.std.proofs.Common.{◌≡◌, ℕ, ◌+◌, ◌≤◌, Bool, true, false, cond, ◌||◌, List, [], ◌∷◌, ◌++◌, length, map, bytes_eq, is_some, Some, None, Option, sym, refl, ap, ◌∙◌, subst, inl, inr, ⊎_elim, arith, length-append}
+use Rattle.std.proofs.Common.{◌≡◌, ◌+◌, Bool, true, false, cond, ◌||◌, List, [], ◌∷◌, length, bytes_eq, is_some, Some, None, Option, sym, refl, ap, ◌∙◌, subst, inl, inr, ⊎_elim, arith, length-append}
 use Rattle.std.specs.List.{cons_option, list_any}
 use Rattle.std.proofs.lemmas.Bool.{cases_Bool, or_left}
 use Rattle.std.proofs.lemmas.List.Sums.{sum_by-cons}
 use Rattle.std.proofs.lemmas.Slice.Eq.{bytes_eq-Decides}
 use Rattle.catalog.specs.Shape.{Name}
 use Rattle.type_info.specs.declared.oid.Oid.{Oid}
-use Rattle.indexes.specs.Known.{GainedName, HasRoom, Names, known}
-use Rattle.slots.specs.Slots.{filled}
-use Rattle.slots.specs.Text.{lent}
+use Rattle.indexes.specs.Known.{GainedName, Names, known}
 use Rattle.unfolding.specs.Lists.{Mem}
 use Rattle.life.specs.Lists.{fresh_by}
 use Rattle.life.proofs.Lists.{chosen_false, chosen_true, same_truth}
-use Rattle.room.specs.Sizes.{Sizes, bytes}
-use Rattle.book.specs.Held.{FewOf, Held, no_sizes, size_of_name, sum_of}
+use Rattle.room.specs.Sizes.{Sizes}
+use Rattle.book.specs.Held.{Held, no_sizes, size_of_name, sum_of}
 use Rattle.finds.specs.declared.tables.Finds.{Finds}
 use Rattle.finds.specs.Keeping.{size_of_all}
 use Rattle.finds.specs.Resolving.{CountedLead, CountedName, Lead, RoomFor, RoomForAll, lead_bytes, lead_size, left_out, new_leads, same_name}

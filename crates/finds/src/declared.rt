@@ -258,6 +258,10 @@ pub fn resolve_added(
         ((n : Name) → Mem n (declared_names (resolve (declared_by host.now entries.now))) → length n ≤ 128) →
         512 ≤ length seen.old.slots → 32768 ≤ lent seen.old.text → is_some result ≡ true }
     ensures size { IfSome result (λ sizes. sizes_told sizes ≡ size_of_resolved (held_of book.now) finds.now (leads_told host.now entries.now leads.now) (apart_told apart.now)) }
+    ensures added { (c : Catalog) → Laws c → ReadFrom c finds.now → SettledBy c (book_held (held_of book.now)).descriptors finds.now →
+        (t : Tables) → Stands (held_of book.now) t →
+        (es : List ℕ) → LeadsOf c (held_of book.now) (declared_by host.now entries.now) leads.now → ApartOf c finds.now apart.now es →
+        IfSome result (λ sizes. sizes_told sizes ≡ sizes_of (types_added c t (resolve (declared_by host.now entries.now)) (reads_of finds.now) es)) }
 {
     if !is_enough(host, entries, apart.len(), seen) {
         return None;
@@ -281,6 +285,11 @@ pub fn keep_resolved(
 )
     ensures held { held_of book.new ≡ with_resolved (held_of book.old) finds.now (leads_told host.now entries.now leads.now) (apart_told apart.now) }
     ensures capacity { (held_of book.new).capacity ≡ (held_of book.old).capacity }
+    ensures kept { (c : Catalog) → Laws c → ReadFrom c finds.now → SettledBy c (book_held (held_of book.old)).descriptors finds.now →
+        (t : Tables) → Stands (held_of book.old) t →
+        (es : List ℕ) → LeadsOf c (held_of book.old) (declared_by host.now entries.now) leads.now → ApartOf c finds.now apart.now es →
+        first_full (held_of book.old).capacity (held_of book.old).taken (sizes_of (types_added c t (resolve (declared_by host.now entries.now)) (reads_of finds.now) es)) ≡ None →
+        Stands (held_of book.new) (with_types c t (resolve (declared_by host.now entries.now)) (reads_of finds.now) es) }
 {
     finds.keep(book);
     keep_leads(book, host, entries, leads);
