@@ -4,3 +4,4 @@
 pub mod describing;
 pub mod early;
 pub mod filling;
+pub mod resolving;

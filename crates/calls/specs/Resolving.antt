@@ -1,0 +1,36 @@
+-- How the rounds of a Resolve end, and what is to be had for them.
+-- Assumes nothing.
+use Rattle.std.specs.Prelude.{◌≡◌, ℕ, ◌≤◌, List, length, Err, None}
+use Rattle.book.specs.Held.{Held}
+use Rattle.book.specs.Stands.{Stands}
+use Rattle.catalog.specs.Catalog.{Catalog}
+use Rattle.catalog.specs.Shape.{Name}
+use Rattle.faults.specs.declared.fill.FillFault.{FillFault}
+use Rattle.life.specs.Calls.{Declared, resolve}
+use Rattle.life.specs.RoundOne.{for_arrays_alone, resolve_walk, round_one}
+use Rattle.life.specs.Walk.{ended}
+use Rattle.requests.specs.Asked.{declared_by}
+use Rattle.requests.specs.declared.asked.TypeAsked.{TypeAsked}
+use Rattle.resolve.specs.Fills.{ending_told}
+use Rattle.room.specs.Added.{declared_names, with_types}
+use Rattle.room.specs.Room.{limited, tables_left, types_full}
+use Rattle.room.specs.Sizes.{Sizes}
+use Rattle.room.specs.Tables.{Tables, contents}
+use Rattle.unfolding.specs.Lists.{Mem}
+
+-- no more entries than a call may have, and no longer names
+pub record Few (host : List ℕ) (entries : List TypeAsked) : Type 0 where
+  pub entries_few : length entries ≤ 256
+  pub names_short : (n : Name) → Mem n (declared_names (resolve (declared_by host entries))) → length n ≤ 128
+
+module _ (capacity : Sizes) (c : Catalog) (t : Tables) (ds : List Declared) where
+  -- the Resolve is refused so, and the book is what it leaves
+  pub record EntriesRefused (fault : FillFault) (h : Held) : Type 0 where
+    pub ends : ending_told (Err fault) ≡ (limited capacity c t (resolve ds)).ending
+    pub left : Stands h (tables_left capacity c t (resolve ds))
+
+  -- its rounds are walked, and what was read fits and is in the book
+  pub record EntriesKept (rounds : ℕ) (reads : List ℕ) (h : Held) : Type 0 where
+    pub walked : resolve_walk c (contents t) ds ≡ ended rounds reads
+    pub fits : types_full capacity c t (resolve ds) ≡ None
+    pub kept : Stands h (with_types c t (resolve ds) reads (for_arrays_alone (round_one c (contents t) ds)))
