@@ -1,3 +1,5 @@
 pub mod Lives
 pub mod Layers
 pub mod Turned
+pub mod Noting
+pub mod Entered

@@ -1,12 +1,19 @@
 -- How the rounds of a Resolve end, and what is to be had for them.
 -- Assumes nothing.
-use Rattle.std.specs.Prelude.{◌≡◌, ℕ, ◌≤◌, List, length, Err, None}
-use Rattle.book.specs.Held.{Held}
+use Rattle.std.specs.Prelude.{◌≡◌, ℕ, ◌≤◌, List, length, map, false, Err, None}
+use Rattle.book.specs.Held.{Held, book_held}
 use Rattle.book.specs.Stands.{Stands}
 use Rattle.catalog.specs.Catalog.{Catalog}
 use Rattle.catalog.specs.Shape.{Name}
+use Rattle.entries.specs.Asking.{with_link}
+use Rattle.entries.specs.Notes.{apart_told, leads_told}
+use Rattle.entries.specs.declared.notes.Notes.{Notes}
 use Rattle.faults.specs.declared.fill.FillFault.{FillFault}
+use Rattle.finds.specs.Finds.{reads_of}
+use Rattle.finds.specs.Resolving.{entry_lead}
+use Rattle.finds.specs.declared.tables.Finds.{Finds}
 use Rattle.life.specs.Calls.{Declared, resolve}
+use Rattle.life.specs.Lists.{is_in}
 use Rattle.life.specs.RoundOne.{for_arrays_alone, resolve_walk, round_one}
 use Rattle.life.specs.Walk.{ended}
 use Rattle.requests.specs.Asked.{declared_by}
@@ -16,12 +23,20 @@ use Rattle.room.specs.Added.{declared_names, with_types}
 use Rattle.room.specs.Room.{limited, tables_left, types_full}
 use Rattle.room.specs.Sizes.{Sizes}
 use Rattle.room.specs.Tables.{Tables, contents}
-use Rattle.unfolding.specs.Lists.{Mem}
+use Rattle.unfolding.specs.Lists.{Distinct, Mem}
 
 -- no more entries than a call may have, and no longer names
 pub record Few (host : List ℕ) (entries : List TypeAsked) : Type 0 where
   pub entries_few : length entries ≤ 256
   pub names_short : (n : Name) → Mem n (declared_names (resolve (declared_by host entries))) → length n ≤ 128
+
+-- what is noted over this book: where the names lead, and the elements read apart, which are no other reads, with their arrays
+pub record Noted (c : Catalog) (h : Held) (f : Finds) (n : Notes) (ds : List Declared) (es : List ℕ) : Type 0 where
+  pub leads : leads_told n ≡ map (entry_lead c (book_held h)) ds
+  pub apart : apart_told n ≡ map (with_link c) es
+  pub once : Distinct es
+  pub other : (o : ℕ) → Mem o es → is_in o (reads_of f) ≡ false
+  pub few : length es ≤ 256
 
 module _ (capacity : Sizes) (c : Catalog) (t : Tables) (ds : List Declared) where
   -- the Resolve is refused so, and the book is what it leaves

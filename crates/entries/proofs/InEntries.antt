@@ -13,7 +13,8 @@ use Rattle.faults.specs.declared.fill.FillFault.{FillFault}
 use Rattle.requests.specs.Asked.{declared_by, type_asked}
 use Rattle.requests.specs.declared.asked.TypeAsked.{TypeAsked}
 use Rattle.entries.specs.declared.notes.Notes.{Notes}
-use Rattle.entries.specs.Asking.{AllRead, CameTo, entry_lead, from_here, read_told}
+use Rattle.finds.specs.Resolving.{entry_lead}
+use Rattle.entries.specs.Asking.{AllRead, CameTo, from_here, read_told}
 use Rattle.entries.specs.Notes.{leads_told}
 
 -- where names lead, noted for one entry more

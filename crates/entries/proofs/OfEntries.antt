@@ -29,7 +29,7 @@ use Rattle.book.specs.Stands.{Stands}
 use Rattle.resolve.specs.Fills.{left_over}
 use Rattle.resolve.proofs.Left.{known_so, left_so as left_by}
 use Rattle.entries.specs.Answers.{asked_for, lead_at, led_from, oid_if, passes, if_passes, without_oid}
-use Rattle.entries.specs.Asking.{entry_lead}
+use Rattle.finds.specs.Resolving.{entry_lead}
 
 or_false : (x : Bool) → (x || false) ≡ x
 or_false true = refl

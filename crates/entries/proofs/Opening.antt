@@ -20,7 +20,7 @@ use Rattle.resolve.specs.Walks.{waiting_of}
 use Rattle.resolve.proofs.Cut.{with_behind}
 use Rattle.resolve.proofs.Turns.{walk_cut, walk_spent}
 use Rattle.entries.specs.declared.notes.Notes.{Notes}
-use Rattle.entries.specs.Asking.{entry_lead}
+use Rattle.finds.specs.Resolving.{entry_lead}
 use Rattle.entries.specs.FirstRound.{FirstHalted, FirstRead, FirstRefused, FirstTurned}
 use Rattle.entries.specs.Notes.{apart_told}
 

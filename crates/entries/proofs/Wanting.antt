@@ -14,7 +14,7 @@ use Rattle.life.specs.Walk.{answered, ended}
 use Rattle.life.proofs.Lists.{chosen_true, chosen_false}
 use Rattle.requests.specs.Asked.{declared_by, type_asked}
 use Rattle.requests.specs.declared.asked.TypeAsked.{TypeAsked}
-use Rattle.entries.specs.Asking.{entry_lead}
+use Rattle.finds.specs.Resolving.{entry_lead}
 use Rattle.entries.specs.Wants.{held_lead, misses, wants}
 
 any_meant : {A B : Type 0} (test : B → Bool) (f : A → B) (xs : List A) → list_any test (map f xs) ≡ list_any (λ x. test (f x)) xs

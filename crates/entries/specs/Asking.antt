@@ -14,12 +14,6 @@ use Rattle.resolve.specs.Walks.{left_of}
 use Rattle.entries.specs.declared.notes.Notes.{Notes}
 use Rattle.entries.specs.Notes.{apart_of, apart_told}
 
--- the OID that the name of an entry leads to, if it has a name
-abbrev pub entry_lead : Catalog → Book → Declared → Option ℕ
-entry_lead c b (of_oid o) = None
-entry_lead c b (of_name n) = lead c b n
-entry_lead c b (array_of n) = lead c b n
-
 -- how many rows more may be read
 abbrev pub rows_left : Finds → Notes → ℕ
 rows_left f n = left_of (256 - length (apart_told n)) f
