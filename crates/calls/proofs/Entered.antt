@@ -1,19 +1,19 @@
 -- The rounds of a computed Resolve, and what they leave, once they are walked.
 -- Assumes nothing.
-use Rattle.std.proofs.Common.{◌≡◌, ◌∙◌, ℕ, Bool, true, false, if◌then◌else◌, List, [], length, map, option_map, Err, Some, None, Option, sym, refl, ap, subst, arith, ◌↔◌, ◌⊎◌, inl, inr}
+use Rattle.std.proofs.Common.{◌≡◌, ◌∙◌, ℕ, true, false, if◌then◌else◌, List, [], map, option_map, Some, None, Option, sym, refl, ap, subst, arith, ◌↔◌, ◌⊎◌, inl, inr}
 use Rattle.catalog.specs.Catalog.{Catalog}
 use Rattle.catalog.specs.declared.faults.Told.{Told}
-use Rattle.unfolding.specs.Lists.{Distinct, Mem}
+use Rattle.unfolding.specs.Lists.{Mem}
 use Rattle.life.specs.Calls.{Declared, requests, resolve}
 use Rattle.life.specs.Faults.{of_layer_fill}
 use Rattle.life.specs.Life.{Agrees}
 use Rattle.life.specs.Lists.{first_place, is_in}
 use Rattle.life.specs.Outcomes.{Outcome, closing, concluded, if_fits}
-use Rattle.life.specs.Resolve.{lacks, offends, resolve_ending, resolve_left, resolve_settled}
+use Rattle.life.specs.Resolve.{lacks, offends, resolve_left, resolve_settled}
 use Rattle.life.specs.RoundOne.{for_arrays_alone, resolve_walk, round_one}
 use Rattle.life.specs.Rounds.{StandsOnce}
 use Rattle.life.specs.Settle.{settled}
-use Rattle.life.specs.Steps.{Book, Ending, NamesStand, accepts, keeps_finds, refused}
+use Rattle.life.specs.Steps.{Book, Ending, accepts, keeps_finds, refused}
 use Rattle.life.specs.Walk.{Walked, ended}
 use Rattle.life.proofs.First.{Come, resolve_come}
 use Rattle.life.proofs.Known.{known_not}
@@ -24,7 +24,7 @@ use Rattle.life.proofs.Standing.{stands_unknown}
 use Rattle.life.proofs.Told.{WalkTold, resolve_told}
 use Rattle.std.proofs.lemmas.Bool.{cases_Bool}
 use Rattle.room.specs.Added.{columns_added, types_added, with_types}
-use Rattle.room.specs.Room.{limited, rows_read, tables_left, types_full}
+use Rattle.room.specs.Room.{limited, rows_read, tables_left}
 use Rattle.room.specs.Sizes.{first_full, sizes_of}
 use Rattle.room.specs.Tables.{Tables, contents, extended}
 use Rattle.room.proofs.Extended.{extended_none}
@@ -40,7 +40,7 @@ use Rattle.faults.specs.Faults.{refusal_of}
 use Rattle.finds.specs.Finds.{reads_of}
 use Rattle.finds.specs.Resolving.{entry_lead}
 use Rattle.finds.specs.declared.tables.Finds.{Finds}
-use Rattle.resolve.specs.Fills.{FullAt, ending_told}
+use Rattle.resolve.specs.Fills.{FullAt}
 use Rattle.resolve.specs.Walks.{stopped_told}
 
 module _ (c : Catalog) (h : Held) (t : Tables) (s : Stands h t) (ds : List Declared) where
@@ -141,6 +141,9 @@ module _ (c : Catalog) (h : Held) (t : Tables) (s : Stands h t) (ds : List Decla
 
     pub then_ends : out.ending ≡ then_ending
     then_ends = (λ i. (by (k.fits i) (k.walked i)).ending)
+
+    pub left_told : out.left.descriptors ≡ settled c b.descriptors reads
+    left_told = (λ i. (by (k.fits i) (k.walked i)).left.descriptors)
 
     by_ending : (x y : Option ℕ) → left_by (ended n reads) (closing n x y) ≡ with_types c t (resolve ds) reads apart
     by_ending None None = extended_none (with_types c t (resolve ds) reads apart)

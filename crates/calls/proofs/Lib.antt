@@ -3,3 +3,4 @@ pub mod Layers
 pub mod Turned
 pub mod Noting
 pub mod Entered
+pub mod Concluded

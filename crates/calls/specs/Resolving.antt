@@ -15,6 +15,7 @@ use Rattle.finds.specs.declared.tables.Finds.{Finds}
 use Rattle.life.specs.Calls.{Declared, resolve}
 use Rattle.life.specs.Lists.{is_in}
 use Rattle.life.specs.RoundOne.{for_arrays_alone, resolve_walk, round_one}
+use Rattle.life.specs.Steps.{Ending}
 use Rattle.life.specs.Walk.{ended}
 use Rattle.requests.specs.Asked.{declared_by}
 use Rattle.requests.specs.declared.asked.TypeAsked.{TypeAsked}
@@ -49,3 +50,8 @@ module _ (capacity : Sizes) (c : Catalog) (t : Tables) (ds : List Declared) wher
     pub walked : resolve_walk c (contents t) ds ≡ ended rounds reads
     pub fits : types_full capacity c t (resolve ds) ≡ None
     pub kept : Stands h (with_types c t (resolve ds) reads (for_arrays_alone (round_one c (contents t) ds)))
+
+  -- it ended so, and the book is what it leaves
+  pub record EntriesDone (e : Ending) (h : Held) : Type 0 where
+    pub ends : e ≡ (limited capacity c t (resolve ds)).ending
+    pub left : Stands h (tables_left capacity c t (resolve ds))

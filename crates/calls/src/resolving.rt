@@ -1,36 +1,47 @@
 // Resolve: its rounds, what goes into the book, and the OIDs of its entries.
-ghost use Rattle.std.specs.Prelude.{◌≡◌, ℕ, ◌≤◌, IfErr, IfOk, List, MatchResult, None, length, map, option_map};
+ghost use Rattle.std.specs.Prelude.{◌≡◌, ℕ, ◌≤◌, IfErr, IfOk, List, MatchResult, false, true, None, length, map, option_map};
 ghost use Rattle.book.specs.Book.{held_of};
 ghost use Rattle.book.specs.Held.{book_held};
 ghost use Rattle.book.specs.Stands.{Stands};
 ghost use Rattle.book.specs.Sizes.{position_of};
-ghost use Rattle.calls.specs.Resolving.{EntriesKept, EntriesRefused, Few, Noted};
+ghost use Rattle.calls.specs.Endings.{ending_of};
+ghost use Rattle.calls.specs.Resolving.{EntriesDone, EntriesKept, EntriesRefused, Few, Noted};
 ghost use Rattle.catalog.specs.Catalog.{Catalog, Laws, Spent};
+ghost use Rattle.entries.specs.Answers.{all_written, asked_for, led, without_oid};
 ghost use Rattle.entries.specs.Notes.{leads_told};
 ghost use Rattle.faults.specs.Faults.{refusal_of};
 ghost use Rattle.finds.specs.Keeping.{SettledBy};
 ghost use Rattle.finds.specs.Finds.{ReadFrom, queue_of, reads_of, rows_of};
 ghost use Rattle.life.specs.Calls.{resolve};
 ghost use Rattle.finds.specs.Resolving.{entry_lead};
+ghost use Rattle.life.specs.Buffers.{written_over};
 ghost use Rattle.life.specs.Life.{Agrees};
+ghost use Rattle.life.specs.Lists.{first_place};
+ghost use Rattle.life.specs.Outcomes.{closing};
+ghost use Rattle.life.specs.Resolve.{oids};
+ghost use Rattle.life.specs.Steps.{accepts, keeps_finds, rounds_told as told_rounds};
 ghost use Rattle.requests.specs.Asked.{declared_by};
-ghost use Rattle.resolve.specs.Fills.{FullAt};
-ghost use Rattle.resolve.specs.Walks.{rounds_told};
+ghost use Rattle.resolve.specs.Fills.{FullAt, left_over};
+ghost use Rattle.resolve.specs.Walks.{known_to, rounds_told};
 ghost use Rattle.room.specs.Added.{types_added, with_types};
+ghost use Rattle.room.specs.Room.{limited};
 ghost use Rattle.room.specs.Sizes.{first_full, sizes_of};
 ghost use Rattle.room.specs.Tables.{Tables, contents};
 
 use book::sizes::BookTable;
 use book::tables::Book;
 use catalog::questions::TypeCatalog;
+use entries::answering::{first_unresolved, first_without, write_oids};
 use entries::notes::Notes;
 use entries::walking::walk_entries;
+use faults::call::CallFault;
 use faults::fill::FillFault;
 use finds::declared::{keep_resolved, resolve_added};
 use finds::tables::Finds;
 use indexes::names::NameIndex;
 use keys::span::Span;
 use requests::asked::TypeAsked;
+use resolve::filling::told_place;
 use slots::map::Entry;
 use type_info::oid::Oid;
 
@@ -116,4 +127,67 @@ fn fill_entries<C: TypeCatalog>(
     let rounds = walk_entries(finds, notes, book, catalog, host, entries)?;
     keep_entries(finds, notes, text, names, book, host, entries, rounds)?;
     Ok(rounds)
+}
+
+// How a resolve ends once all is kept: refused at its first unresolved entry, or else at its first entry without an OID, or with the
+// OIDs written.
+fn conclude(
+    finds: &Finds<'_>,
+    notes: &Notes<'_>,
+    book: &Book<'_>,
+    entries: &[TypeAsked],
+    rounds: u8,
+    out: &mut [u32],
+) -> Result<u8, CallFault>
+    ensures ends { length entries.now ≤ 256 → (c : Catalog) → ReadFrom c finds.now → reads_of finds.now ≡ queue_of finds.now → (host : List ℕ) →
+        ending_of result ≡ closing rounds
+        (first_place (λ x. asked_for (book_held (held_of book.now)).arrays (left_over c (known_to book.now) (reads_of finds.now)) x.0 x.1) 0 (led host entries.now notes.now))
+        (first_place (λ x. without_oid (book_held (held_of book.now)).arrays (known_to book.now) x.0 x.1) 0 (led host entries.now notes.now)) }
+    ensures cost { told_rounds (ending_of result) ≡ rounds }
+    ensures keeps { keeps_finds (ending_of result) ≡ true }
+    ensures written { accepts (ending_of result) ≡ true → (host : List ℕ) → length entries.now ≤ length out.old →
+        out.new ≡ written_over (all_written (book_held (held_of book.now)).arrays (known_to book.now) (led host entries.now notes.now)) out.old }
+    ensures unwritten { accepts (ending_of result) ≡ false → out.new ≡ out.old }
+{
+    if let Some(place) = first_unresolved(finds, notes, book, entries) {
+        return Err(CallFault::Fill(FillFault::Unresolved {
+            place: told_place(place),
+            rounds,
+        }));
+    }
+    if let Some(place) = first_without(notes, book, entries) {
+        return Err(CallFault::NoOid {
+            place: told_place(place),
+            rounds,
+        });
+    }
+    write_oids(notes, book, entries, out);
+    Ok(rounds)
+}
+
+// The resolve but for what is refused before any round, and without its life.
+fn resolve_entries<C: TypeCatalog>(
+    finds: &mut Finds<'_>,
+    notes: &mut Notes<'_>,
+    text: &mut [u8],
+    names: &mut [Entry<Span, Oid>],
+    book: &mut Book<'_>,
+    catalog: &mut C,
+    host: &[u8],
+    entries: &[TypeAsked],
+    out: &mut [u32],
+) -> Result<u8, CallFault>
+    ensures did { Few host.now entries.now → 32768 ≤ length text.old → 512 ≤ length names.old →
+        (t : Tables) → Stands (held_of book.old) t → Agrees (C.meaning catalog.old) (contents t) →
+        EntriesDone (held_of book.old).capacity (C.meaning catalog.old) t (declared_by host.now entries.now) (ending_of result) (held_of book.new) }
+    ensures cost { Spent (told_rounds (ending_of result)) (C.meaning catalog.old) (C.meaning catalog.new) }
+    ensures capacity { (held_of book.new).capacity ≡ (held_of book.old).capacity }
+    ensures unkept { keeps_finds (ending_of result) ≡ false → held_of book.new ≡ held_of book.old }
+    ensures written { accepts (ending_of result) ≡ true → Few host.now entries.now → 32768 ≤ length text.old → 512 ≤ length names.old →
+        (t : Tables) → Stands (held_of book.old) t → Agrees (C.meaning catalog.old) (contents t) → length entries.now ≤ length out.old →
+        out.new ≡ written_over (oids (C.meaning catalog.old) (contents t) (limited (held_of book.old).capacity (C.meaning catalog.old) t (resolve (declared_by host.now entries.now))).left.descriptors (declared_by host.now entries.now)) out.old }
+    ensures unwritten { accepts (ending_of result) ≡ false → out.new ≡ out.old }
+{
+    let rounds = fill_entries(finds, notes, text, names, book, catalog, host, entries)?;
+    conclude(finds, notes, book, entries, rounds, out)
 }

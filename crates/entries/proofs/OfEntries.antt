@@ -63,6 +63,15 @@ module _ (f : Declared → Option ℕ) where
       ((x : Declared) → Mem x ds → test (x, f x) ≡ told x) → first_place test 0 (led_from 0 ds ls) ≡ first_place told 0 ds
   first_told test told ds ls e same = ap (first_place test 0) (led_pairs ds 0 ls e) ∙ place_mapped test told ds same 0
 
+  map_mapped : {X : Type 0} (g : Declared × Option ℕ → X) (told : Declared → X) (ds : List Declared) → ((x : Declared) → Mem x ds → g (x, f x) ≡ told x) →
+      map g (map (λ x. (x, f x)) ds) ≡ map told ds
+  map_mapped g told [] same = refl
+  map_mapped g told (x ∷ xs) same = λ i. same x (inl refl) i ∷ map_mapped g told xs (λ y m. same y (inr m)) i
+
+  pub all_told : {X : Type 0} (g : Declared × Option ℕ → X) (told : Declared → X) (ds : List Declared) (ls : List (Option ℕ)) → ls ≡ map f ds →
+      ((x : Declared) → Mem x ds → g (x, f x) ≡ told x) → map g (led_from 0 ds ls) ≡ map told ds
+  all_told g told ds ls e same = ap (map g) (led_pairs ds 0 ls e) ∙ map_mapped g told ds same
+
 module _ (c : Catalog) (t : Tables) (agree : Agrees c (contents t)) (ds : List Declared) (reads : List ℕ)
     (are : (o : ℕ) → Mem o reads ↔ StandsOnce c (contents t).descriptors (requests c (resolve ds)) o)
     (g : Held) (now : Stands g (with_types c t (resolve ds) reads (for_arrays_alone (round_one c (contents t) ds)))) where

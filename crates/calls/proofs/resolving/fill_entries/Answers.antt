@@ -2,14 +2,12 @@ use Rattle.std.proofs.Common.{◌≡◌, ◌∙◌, ap, length, List, ℕ, refl,
 use Rattle.std.proofs.lemmas.Result.{err_from_is_err_and}
 use Rattle.book.specs.Book.{held_of}
 use Rattle.book.specs.Held.{Held}
-use Rattle.book.specs.Stands.{Stands}
-use Rattle.life.specs.Life.{Agrees}
 use Rattle.life.specs.RoundOne.{for_arrays_alone, resolve_walk, round_one}
 use Rattle.life.specs.Steps.{Book}
 use Rattle.finds.specs.Finds.{reads_of}
 use Rattle.requests.specs.Asked.{declared_by}
-use Rattle.room.specs.Tables.{Tables, contents}
-use Rattle.calls.specs.Resolving.{EntriesKept, EntriesRefused, Few, Noted}
+use Rattle.room.specs.Tables.{contents}
+use Rattle.calls.specs.Resolving.{EntriesKept, EntriesRefused, Noted}
 use Rattle.calls.proofs.Entered.{all_kept, full_refuses, noted_so, stopped}
 use Rattle.calls.proofs.resolving.fill_entries.Goals as goal
 

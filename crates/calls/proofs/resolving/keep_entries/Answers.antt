@@ -5,7 +5,6 @@ use Rattle.book.specs.Stands.{Stands}
 use Rattle.catalog.specs.Catalog.{Catalog}
 use Rattle.life.specs.Calls.{Declared, resolve}
 use Rattle.life.specs.Faults.{of_layer_fill}
-use Rattle.life.specs.Lists.{is_in}
 use Rattle.finds.specs.Finds.{ReadFrom, reads_of}
 use Rattle.finds.specs.Keeping.{SettledBy}
 use Rattle.finds.proofs.Landed.{settled_by}
