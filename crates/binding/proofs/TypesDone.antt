@@ -14,10 +14,11 @@ use Rattle.life.specs.Calls.{Binding, Call, bind, requests}
 use Rattle.life.specs.Faults.{of_layer_fill}
 use Rattle.life.specs.Lists.{first_place}
 use Rattle.life.specs.Outcomes.{Outcome, concluded, if_fits, unresolved}
-use Rattle.life.specs.Rounds.{StandsOnce}
+use Rattle.life.specs.Rounds.{Descriptors, StandsOnce}
 use Rattle.life.specs.Settle.{settled}
 use Rattle.life.specs.Steps.{Book, Ending, accepts, keeps_finds, refused}
 use Rattle.life.specs.Walk.{Walked, answered, ended, walk_from}
+use Rattle.life.proofs.Ends.{ends_law}
 use Rattle.life.proofs.Lists.{not_some_none, same_some}
 use Rattle.life.proofs.Told.{WalkTold, oids_told}
 use Rattle.life.proofs.Walk.{Result as Walked_to, ended_reads, walk_result}
@@ -165,6 +166,10 @@ module _ (c : Catalog) (h : Held) (t : Tables) (s : Stands h t) (q : Binding) (p
           unfold_all = sym first_so ∙ e;
           kept = now;
         }
+
+-- rounds that are walked to their end are few
+pub rounds_few : (c : Catalog) (b : Descriptors) (rs : List ℕ) (n : ℕ) (reads : List ℕ) → ended n reads ≡ walk_from c b rs → n ≤ 64
+rounds_few c b rs n reads walked = ((ends_law c b rs n).0 (reads, sym walked)).rounds
 
 -- places of two short lists are small
 pub place_small : (parameters : List ℕ) (fields : List FieldAsked) (place : ℕ) → length parameters ≤ 256 → length fields ≤ 256 → place < length (both_lists parameters fields) →

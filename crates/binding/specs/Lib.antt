@@ -3,3 +3,4 @@ pub mod Memory
 pub mod Asked
 pub mod ColumnRound
 pub mod Writing
+pub mod Whole

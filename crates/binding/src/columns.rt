@@ -1,6 +1,6 @@
 // The column round of a bind: the columns that its fields come from and the book does not hold are asked for, each once, and what is
 // found goes into the book.
-ghost use Rattle.std.specs.Prelude.{◌≡◌, ℕ, ◌+◌, ◌-◌, ◌<◌, ◌≤◌, List, [], IfErr, IfOk, MatchBool, MatchOption, MatchResult, None, if◌then◌else◌, length, option_map, option_to_list, is_some};
+ghost use Rattle.std.specs.Prelude.{◌≡◌, ℕ, ◌+◌, ◌-◌, ◌<◌, ◌≤◌, List, [], IfErr, IfOk, MatchBool, MatchOption, MatchResult, None, if◌then◌else◌, length, option_map, option_to_list, is_some, true};
 ghost use Rattle.binding.specs.Asked.{Gathered, asked_of, source_of, unheld};
 ghost use Rattle.binding.specs.Memory.{Whole};
 ghost use Rattle.binding.specs.ColumnRound.{FullAt, columns_full, ending_told, round_ending};
@@ -13,7 +13,7 @@ ghost use Rattle.faults.specs.Faults.{columns_refusal_of};
 ghost use Rattle.finds.specs.Columns.{RelatedBy};
 ghost use Rattle.keys.specs.Senses.{Pair, pair_of, same_pair};
 ghost use Rattle.life.specs.Lists.{push_all};
-ghost use Rattle.life.specs.Steps.{rounds_told};
+ghost use Rattle.life.specs.Steps.{keeps_finds, rounds_told};
 ghost use Rattle.room.specs.Added.{with_columns};
 ghost use Rattle.room.specs.Tables.{Tables};
 ghost use Rattle.unfolding.specs.Lists.{Distinct};
@@ -204,6 +204,8 @@ pub fn column_round<C: ColumnCatalog>(
     ensures cost { rounds < 255 → Spent (rounds_told (ending_told rounds result) - rounds) (C.TypeCatalog.meaning catalog.old) (C.TypeCatalog.meaning catalog.new) }
     ensures capacity { (held_of book.new).capacity ≡ (held_of book.old).capacity }
     ensures unkept { IfErr result (λ _. held_of book.new ≡ held_of book.old) }
+    ensures since { rounds < 255 → rounds ≤ rounds_told (ending_told rounds result) }
+    ensures types_kept { rounds < 255 → keeps_finds (ending_told rounds result) ≡ true }
 {
     if !any_asked(book, fields) {
         return Ok(0);

@@ -6,4 +6,5 @@ pub mod types;
 
 pub mod columns;
 pub mod memory;
+pub mod whole;
 pub mod writing;

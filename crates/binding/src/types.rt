@@ -1,5 +1,5 @@
 // The types of a bind: they are asked for, and go into the book, as those of a fill do.
-ghost use Rattle.std.specs.Prelude.{◌≡◌, ◌≤◌, MatchResult, false, length};
+ghost use Rattle.std.specs.Prelude.{◌≡◌, ◌≤◌, IfOk, MatchResult, false, length};
 ghost use Rattle.binding.specs.Types.{AsksFor, TypesKept, TypesRefused};
 ghost use Rattle.book.specs.Book.{held_of};
 ghost use Rattle.book.specs.Stands.{Stands};
@@ -32,6 +32,7 @@ pub fn fill_types<C: TypeCatalog>(
         MatchResult result
         (λ rounds. TypesKept (held_of book.old).capacity (C.meaning catalog.old) t q rounds (held_of book.new))
         (λ fault. TypesRefused (held_of book.old).capacity (C.meaning catalog.old) t q fault (held_of book.new)) }
+    ensures few { IfOk result (λ rounds. rounds ≤ 64) }
     ensures cost { Spent (rounds_told result) (C.meaning catalog.old) (C.meaning catalog.new) }
     ensures capacity { (held_of book.new).capacity ≡ (held_of book.old).capacity }
     ensures unkept { keeps_finds (ending_told result) ≡ false → held_of book.new ≡ held_of book.old }

@@ -1,13 +1,14 @@
 use Rattle.std.proofs.Common.{◌≡◌, [], None, Some, ap, refl, arith}
 use Rattle.std.proofs.lemmas.Result.{err_from_is_err_and}
 use Rattle.book.specs.Book.{held_of}
+use Rattle.book.specs.Held.{book_held}
 use Rattle.finds.specs.Finds.{reads_of}
 use Rattle.life.specs.Calls.{bind, fill}
 use Rattle.life.specs.Faults.{of_layer_fill}
 use Rattle.resolve.specs.Lists.{both_lists}
 use Rattle.resolve.specs.Walks.{known_to}
 use Rattle.resolve.proofs.Left.{first_so}
-use Rattle.binding.proofs.TypesDone.{all_kept, columns_stay, full_refuses, left_in, left_refuses, place_small, relations_stay, stopped_so}
+use Rattle.binding.proofs.TypesDone.{all_kept, columns_stay, full_refuses, left_in, left_refuses, place_small, relations_stay, rounds_few, stopped_so}
 use Rattle.binding.proofs.types.fill_types.Goals as goal
 
 pub returns-in_err-rounds-clause-told : goal.returns-in_err-rounds-clause-told
@@ -68,6 +69,11 @@ returns-in-None-clause-told g c = λ few many t s q so.
     (first_so k c.walk_lists.new.finds c.keep_finds.new.finds kept.queue kept.rows (known_to c.keep_finds.new.book) (both_lists ps fs) None walked.read walked.all
     (c.in-None.ensures (omega (arith, few, many))))
     refl
+
+pub returns-in-None-clause-few : goal.returns-in-None-clause-few
+returns-in-None-clause-few g c =
+    rounds_few (g.C.TypeCatalog.meaning c.args.catalog.now) (book_held (held_of c.args.book.now)).descriptors (both_lists c.args.parameters.now c.args.fields.now) c.in_ok-rounds.rounds
+    (reads_of c.walk_lists.new.finds) c.in_ok-rounds.ensures.outcome
 
 pub returns-in-None-clause-columns : goal.returns-in-None-clause-columns
 returns-in-None-clause-columns g c = λ t s.
