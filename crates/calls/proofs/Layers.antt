@@ -13,25 +13,14 @@ use Rattle.room.specs.Room.{columns_full, types_full}
 use Rattle.room.specs.Tables.{Tables, contents}
 use Rattle.book.specs.Held.{Held}
 use Rattle.book.specs.Stands.{Stands}
-use Rattle.calls.specs.Endings.{Did, TellsOf, ending_of}
-use Rattle.faults.specs.Faults.{call_refusal_of, refusal_of, refused_so}
+use Rattle.binding.specs.Whole.{bound_ending}
+use Rattle.binding.specs.declared.whole.Rounds.{Rounds}
+use Rattle.calls.specs.Endings.{TellsOf, ending_of}
+use Rattle.faults.specs.Faults.{call_refusal_of, refused_so}
 use Rattle.faults.specs.declared.call.CallFault.{CallFault}
 use Rattle.faults.specs.declared.call.CallFault.TheVariants.{TooLong, NoSlot, BadName, NoOid, Fill, Columns}
 use Rattle.faults.specs.declared.columns.ColumnsFault.TheVariants as columns
-use Rattle.faults.specs.declared.fill.FillFault.{FillFault}
 use Rattle.faults.specs.declared.fill.FillFault.TheVariants.{Catalog as OfCatalog, TooManyRounds, Malformed, TooManyRows, Full, Unresolved}
-
--- no fault of a fill is of layer columns
-pub not_of_columns : (f : FillFault) → refused_so (refusal_of f) ≡ refused (refusal_of f).number (refusal_of f).place false (refusal_of f).rounds
-not_of_columns (OfCatalog (NoAllowance round)) = refl
-not_of_columns (OfCatalog (BreaksLimit of)) = refl
-not_of_columns (OfCatalog (Contradicts of)) = refl
-not_of_columns (OfCatalog (Lacks table)) = refl
-not_of_columns TooManyRounds = refl
-not_of_columns (Malformed oid round) = refl
-not_of_columns (TooManyRows oid round) = refl
-not_of_columns (Full table rounds) = refl
-not_of_columns (Unresolved place rounds) = refl
 
 -- a call is not refused as an addition to a catalog is
 not_listed : (n p r : ℕ) → 10 < n → Listed layer.Fill n p r → ⊥
@@ -65,9 +54,19 @@ module _ (full full_columns : Book → Option ℕ) (host : List ℕ) (c : Catalo
   pub tells_so : (fault : CallFault) → refused_so (call_refusal_of fault) ≡ end → TellsOf end fault
   tells_so fault e = subst (λ (x : Ending). TellsOf x fault) e (at_ending fault (sym e))
 
-pub layers : (c : Catalog) (b b' : Held) (host : List ℕ) (call : HostCall) (r : Result ℕ CallFault) →
-    ((t : Tables) → Stands b t → Did c b b' host call (ending_of r) t) →
-    IfErr r (λ fault. (t : Tables) → Stands b t → TellsOf (asked_within b.capacity host c t call).ending fault)
-layers c b b' host call (Ok n) did = tt
-layers c b b' host call (Err fault) did = λ t s.
-    tells_so (λ _. types_full b.capacity c t (meant host call)) (λ _. columns_full b.capacity c t (meant host call)) host c (contents t) call fault (did t s).ends
+module _ (c : Catalog) (b : Held) (host : List ℕ) (call : HostCall) where
+  -- the fault is that of the refusal
+  abbrev Ends : Ending → Type 0
+  Ends e = (t : Tables) → Stands b t → e ≡ (asked_within b.capacity host c t call).ending
+
+  pub layer_at : (fault : CallFault) → Ends (refused_so (call_refusal_of fault)) → (t : Tables) → Stands b t → TellsOf (asked_within b.capacity host c t call).ending fault
+  layer_at fault ends t s =
+      tells_so (λ _. types_full b.capacity c t (meant host call)) (λ _. columns_full b.capacity c t (meant host call)) host c (contents t) call fault (ends t s)
+
+  pub layers : (r : Result ℕ CallFault) → Ends (ending_of r) → IfErr r (λ fault. (t : Tables) → Stands b t → TellsOf (asked_within b.capacity host c t call).ending fault)
+  layers (Ok n) ends = tt
+  layers (Err fault) ends = layer_at fault ends
+
+  pub bound_layers : (r : Result Rounds CallFault) → Ends (bound_ending r) → IfErr r (λ fault. (t : Tables) → Stands b t → TellsOf (asked_within b.capacity host c t call).ending fault)
+  bound_layers (Ok n) ends = tt
+  bound_layers (Err fault) ends = layer_at fault ends

@@ -4,3 +4,4 @@ pub mod Turned
 pub mod Noting
 pub mod Entered
 pub mod Concluded
+pub mod Binds

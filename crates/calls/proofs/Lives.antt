@@ -17,6 +17,9 @@ use Rattle.room.proofs.Room.{room_law}
 use Rattle.book.specs.Held.{Held}
 use Rattle.book.specs.Lived.{HasLived, LawHolds}
 use Rattle.book.specs.Stands.{Stands}
+use Rattle.finds.specs.Columns.{RelatedBy}
+use Rattle.finds.proofs.Related.{related_by}
+use Rattle.binding.specs.Writing.{ColumnsSized}
 use Rattle.calls.specs.Endings.{Did}
 
 whole : (h : List Event) (c : Catalog) (b : Held) → HasLived h c b → LawHolds h c b
@@ -53,6 +56,16 @@ one_more h d c c' b b' host call ending laws l m cost same does =
     asked_done b.capacity host call e t t' (record { laws = laws; event = ap (call_event c (meant host call)) did.ends; left = refl }) in
     let now : LivedWithin b.capacity (e ∷ h) c' t' = (t, lived, done, same_grows e.after c' (sym cost.after)) in
     whole (e ∷ h) c' b' (record { tables = t'; lived = subst (λ (s : Sizes). LivedWithin s (e ∷ h) c' t') (sym same) now; stands = did.left })
+
+-- of a book that has lived the tables of relations are those that the catalog's columns tell
+pub related : (h : List Event) (c : Catalog) (b : Held) (t : Tables) → Laws c → LivedWithin b.capacity h c t → Stands b t → RelatedBy c b
+related h c b t laws l s =
+    let law = room_law b.capacity h c t l in
+    related_by c laws b t s law.2 (λ p k e. law.0.agrees.columns p.0 p.1 k e)
+
+-- and the names of its columns are within their limits
+pub sized : (h : List Event) (c : Catalog) (b : Held) → Laws c → LawHolds h c b → ColumnsSized b
+sized h c b laws l r a k e = laws.columns_fit r a k (l.lawful.agrees.columns r a k e)
 
 -- a Describe asks for nothing and leaves the tables as they are
 untouched : (c : Catalog) (b : Held) (o : ℕ) (t : Tables) → Stands b t → Stands b (asked_left b.capacity [] c t (host_describe o))

@@ -8,8 +8,8 @@ use Rattle.calls.proofs.filling.fill.Goals as goal
 
 pub returns-clause-layer : goal.returns-clause-layer
 returns-clause-layer g c =
-    layers (g.C.TypeCatalog.meaning c.args.catalog.now) (held_of c.args.book.now) (held_of c.fill_asked.new.book) [] (host_fill c.args.oids.now)
-    c.fill_asked.result c.fill_asked.ensures.did
+    layers (g.C.TypeCatalog.meaning c.args.catalog.now) (held_of c.args.book.now) [] (host_fill c.args.oids.now) c.fill_asked.result
+    (λ t s. (c.fill_asked.ensures.did t s).ends)
 
 pub returns-clause-lives : goal.returns-clause-lives
 returns-clause-lives g c h d l m =
