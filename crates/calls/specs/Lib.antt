@@ -1,2 +1,4 @@
 pub mod Endings
 pub mod Resolving
+pub mod Work
+pub mod Working

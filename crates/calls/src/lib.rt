@@ -6,3 +6,5 @@ pub mod describing;
 pub mod early;
 pub mod filling;
 pub mod resolving;
+pub mod work;
+pub mod working;

@@ -4,7 +4,7 @@ ghost use Rattle.book.specs.Book.{held_of};
 ghost use Rattle.book.specs.Held.{book_held};
 ghost use Rattle.book.specs.Stands.{Stands};
 ghost use Rattle.book.specs.Sizes.{position_of};
-ghost use Rattle.calls.specs.Endings.{ending_of};
+ghost use Rattle.calls.specs.Endings.{Did, ending_of};
 ghost use Rattle.calls.specs.Resolving.{EntriesDone, EntriesKept, EntriesRefused, Few, Noted};
 ghost use Rattle.catalog.specs.Catalog.{Catalog, Laws, Spent};
 ghost use Rattle.entries.specs.Answers.{all_written, asked_for, led, without_oid};
@@ -15,11 +15,13 @@ ghost use Rattle.finds.specs.Finds.{ReadFrom, queue_of, reads_of, rows_of};
 ghost use Rattle.life.specs.Calls.{resolve};
 ghost use Rattle.finds.specs.Resolving.{entry_lead};
 ghost use Rattle.life.specs.Buffers.{written_over};
+ghost use Rattle.life.specs.HostCalls.{host_resolve};
 ghost use Rattle.life.specs.Life.{Agrees};
 ghost use Rattle.life.specs.Lists.{first_place};
 ghost use Rattle.life.specs.Outcomes.{closing};
 ghost use Rattle.life.specs.Resolve.{oids};
 ghost use Rattle.life.specs.Steps.{accepts, keeps_finds, rounds_told as told_rounds};
+ghost use Rattle.requests.specs.Early.{resolve_asked as resolve_of};
 ghost use Rattle.requests.specs.Asked.{declared_by};
 ghost use Rattle.resolve.specs.Fills.{FullAt, left_over};
 ghost use Rattle.resolve.specs.Walks.{known_to, rounds_told};
@@ -28,6 +30,8 @@ ghost use Rattle.room.specs.Room.{limited};
 ghost use Rattle.room.specs.Sizes.{first_full, sizes_of};
 ghost use Rattle.room.specs.Tables.{Tables, contents};
 
+use crate::early::fault_of;
+use crate::work::Work;
 use book::sizes::BookTable;
 use book::tables::Book;
 use catalog::questions::TypeCatalog;
@@ -41,6 +45,7 @@ use finds::tables::Finds;
 use indexes::names::NameIndex;
 use keys::span::Span;
 use requests::asked::TypeAsked;
+use requests::early::resolve_refused;
 use resolve::filling::told_place;
 use slots::map::Entry;
 use type_info::oid::Oid;
@@ -190,4 +195,38 @@ fn resolve_entries<C: TypeCatalog>(
 {
     let rounds = fill_entries(finds, notes, text, names, book, catalog, host, entries)?;
     conclude(finds, notes, book, entries, rounds, out)
+}
+
+// The resolve, but that nothing is said of the life of the book.
+fn resolve_asked<C: TypeCatalog>(
+    book: &mut Book<'_>,
+    catalog: &mut C,
+    work: &mut Work<'_>,
+    host: &[u8],
+    entries: &[TypeAsked],
+    out: &mut [u32],
+) -> Result<u8, CallFault>
+    ensures did { (t : Tables) → Stands (held_of book.old) t → Agrees (C.meaning catalog.old) (contents t) →
+        Did (C.meaning catalog.old) (held_of book.old) (held_of book.new) host.now (host_resolve (resolve_of entries.now (length out.old))) (ending_of result) t }
+    ensures cost { Spent (told_rounds (ending_of result)) (C.meaning catalog.old) (C.meaning catalog.new) }
+    ensures capacity { (held_of book.new).capacity ≡ (held_of book.old).capacity }
+    ensures unkept { keeps_finds (ending_of result) ≡ false → held_of book.new ≡ held_of book.old }
+    ensures written { accepts (ending_of result) ≡ true → (t : Tables) → Stands (held_of book.old) t → Agrees (C.meaning catalog.old) (contents t) →
+        out.new ≡ written_over (oids (C.meaning catalog.old) (contents t) (limited (held_of book.old).capacity (C.meaning catalog.old) t (resolve (declared_by host.now entries.now))).left.descriptors (declared_by host.now entries.now)) out.old }
+    ensures unwritten { accepts (ending_of result) ≡ false → out.new ≡ out.old }
+{
+    match resolve_refused(host, entries, out.len()) {
+        Some(early) => Err(fault_of(early)),
+        None => resolve_entries(
+            &mut work.finds,
+            &mut work.notes,
+            work.text,
+            work.names,
+            book,
+            catalog,
+            host,
+            entries,
+            out,
+        ),
+    }
 }
