@@ -5,3 +5,4 @@ pub mod Noting
 pub mod Entered
 pub mod Concluded
 pub mod Binds
+pub mod Answering

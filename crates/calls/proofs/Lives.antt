@@ -38,7 +38,7 @@ grows_on a b c m n = record {
 }
 
 -- a life goes on over a catalog that grows
-grown : (capacity : Sizes) (h : List Event) (c d : Catalog) (t : Tables) → LivedWithin capacity h c t → Grows c d → LivedWithin capacity h d t
+pub grown : (capacity : Sizes) (h : List Event) (c d : Catalog) (t : Tables) → LivedWithin capacity h c t → Grows c d → LivedWithin capacity h d t
 grown capacity [] c d t l m = l
 grown capacity (e ∷ h) c d t l m = (l.0, l.1, l.2, grows_on e.after c d l.3 m)
 

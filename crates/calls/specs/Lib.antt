@@ -2,3 +2,4 @@ pub mod Endings
 pub mod Resolving
 pub mod Work
 pub mod Working
+pub mod Answers

@@ -6,6 +6,7 @@ ghost use Rattle.binding.specs.declared.writing.BoundColumn.{BoundColumn};
 ghost use Rattle.book.specs.Book.{held_of};
 ghost use Rattle.book.specs.Lived.{HasLived, LawHolds};
 ghost use Rattle.book.specs.Stands.{Stands};
+ghost use Rattle.calls.specs.Answers.{AnswersByLaw};
 ghost use Rattle.calls.specs.Endings.{Did, TellsOf, bind_call};
 ghost use Rattle.catalog.specs.Catalog.{Catalog, Grows, Spent};
 ghost use Rattle.finds.specs.Columns.{RelatedBy};
@@ -13,6 +14,7 @@ ghost use Rattle.life.specs.Buffers.{written_over};
 ghost use Rattle.life.specs.Calls.{bind as bind_meant};
 ghost use Rattle.life.specs.Keep.{call_event};
 ghost use Rattle.life.specs.Steps.{Event, keeps_finds, rounds_told};
+ghost use Rattle.requests.specs.Early.{bind_asked as bind_lists_asked};
 ghost use Rattle.requests.specs.declared.asked.FieldAsked.{FieldAsked};
 ghost use Rattle.room.specs.Asked.{asked_left, asked_within};
 ghost use Rattle.room.specs.Tables.{Tables};
@@ -103,6 +105,10 @@ pub fn bind<C: ColumnCatalog>(
     ensures columns_behind { drop (length fields.now) bound.new ≡ drop (length fields.now) bound.old }
     ensures names { IfOk result (λ _. map (λ (k : BoundColumn). k.name) bound.new
         ≡ written_over (map (λ (f : FieldAsked). f.name) fields.now) (map (λ (k : BoundColumn). k.name) bound.old)) }
+    ensures answers { (h : List Event) → (d : Catalog) → (l : HasLived h d (held_of book.old)) → Grows d (C.TypeCatalog.meaning catalog.old) →
+        AnswersByLaw (held_of book.old).capacity host.now (C.TypeCatalog.meaning catalog.old) l.tables
+        (bind_lists_asked parameters.now fields.now queries origins (length types.old) (length bound.old))
+        (held_of book.new) types.old types.new bound.old bound.new }
 {
     let rounds = bind_asked(
         book,

@@ -1,9 +1,11 @@
-use Rattle.std.proofs.Common.{length}
+use Rattle.std.proofs.Common.{length, refl}
 use Rattle.std.proofs.lemmas.Result.{err_from_is_err_and}
 use Rattle.book.specs.Book.{held_of}
 use Rattle.calls.specs.Endings.{bind_call}
 use Rattle.faults.specs.Faults.{call_refusal_of, refused_so}
 use Rattle.life.specs.Steps.{accepted}
+use Rattle.calls.proofs.Answering.{answers_accepted, answers_refused}
+use Rattle.calls.proofs.Lives.{grown, related}
 use Rattle.calls.proofs.Binds.{bind_lives, bind_sized, did}
 use Rattle.calls.proofs.Layers.{layer_at}
 use Rattle.calls.proofs.bound.bind.Goals as goal
@@ -62,3 +64,37 @@ returns-clause-sized g c = λ h d l m.
     bind_sized k (held_of c.args.book.now) (held_of c.bind_asked.new.book) c.args.host.now c.args.parameters.now c.args.fields.now c.args.queries c.args.origins (length c.args.types.now)
     (length c.args.bound.now) (accepted c.in_ok-rounds.rounds.types c.in_ok-rounds.rounds.columns) a.ends a.left (g.C.TypeCatalog.meaning c.bind_asked.new.catalog) (g.C.TypeCatalog.laws c.args.catalog.now)
     a.cost a.capacity h d l m (g.C.TypeCatalog.laws c.bind_asked.new.catalog)
+
+pub returns-in_err-rounds-clause-answers : goal.returns-in_err-rounds-clause-answers
+returns-in_err-rounds-clause-answers g c = λ h d l m.
+    let k = g.C.TypeCatalog.meaning c.args.catalog.now in
+    let b = held_of c.args.book.now in
+    let now = held_of c.bind_asked.new.book in
+    let laws = g.C.TypeCatalog.laws c.args.catalog.now in
+    let a = c.in_err-rounds.ensures in
+    let told = call_refusal_of c.in_err-rounds.field-0.0 in
+    let lived = grown b.capacity h d k l.tables l.lived m in
+    let done =
+    did k b now c.args.host.now c.args.parameters.now c.args.fields.now c.args.queries c.args.origins (length c.args.types.now) (length c.args.bound.now) (refused_so told) a.ends a.left
+    (related h k b l.tables laws lived l.stands) l.tables l.stands in
+    answers_refused k b now c.args.host.now c.args.parameters.now c.args.fields.now c.args.queries c.args.origins (length c.args.types.now) (length c.args.bound.now) l.tables c.args.types.now
+    c.args.types.now c.args.bound.now c.args.bound.now laws h lived told.number told.place _ told.rounds done refl refl
+
+pub returns-clause-answers : goal.returns-clause-answers
+returns-clause-answers g c = λ h d l m.
+    let k = g.C.TypeCatalog.meaning c.args.catalog.now in
+    let b = held_of c.args.book.now in
+    let now = held_of c.bind_asked.new.book in
+    let laws = g.C.TypeCatalog.laws c.args.catalog.now in
+    let a = c.in_ok-rounds.ensures in
+    let rounds = c.in_ok-rounds.rounds in
+    let lived = grown b.capacity h d k l.tables l.lived m in
+    let done =
+    did k b now c.args.host.now c.args.parameters.now c.args.fields.now c.args.queries c.args.origins (length c.args.types.now) (length c.args.bound.now) (accepted rounds.types rounds.columns)
+    a.ends a.left (related h k b l.tables laws lived l.stands) l.tables l.stands in
+    let sized =
+    bind_sized k b now c.args.host.now c.args.parameters.now c.args.fields.now c.args.queries c.args.origins (length c.args.types.now) (length c.args.bound.now)
+    (accepted rounds.types rounds.columns) a.ends a.left (g.C.TypeCatalog.meaning c.bind_asked.new.catalog) laws a.cost a.capacity h d l m (g.C.TypeCatalog.laws c.bind_asked.new.catalog) in
+    answers_accepted k b now c.args.host.now c.args.parameters.now c.args.fields.now c.args.queries c.args.origins (length c.args.types.now) (length c.args.bound.now) l.tables c.args.types.now
+    c.write_types.new.out c.args.bound.now c.write_columns.new.out laws h lived rounds.types rounds.columns done (c.write_types.ensures.written a.within.1)
+    (c.write_columns.ensures.written a.within.0 sized a.within.2)
