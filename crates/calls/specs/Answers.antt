@@ -2,7 +2,7 @@
 -- Assumes nothing.
 use Rattle.std.specs.Prelude.{◌≡◌, ℕ, List, map, Some, Option}
 use Rattle.binding.specs.Writing.{column_told, type_told}
-use Rattle.binding.specs.declared.writing.BoundColumn as binding
+use Rattle.binding.specs.declared.writing.BoundColumn as code
 use Rattle.binding.specs.declared.writing.BoundType.{BoundType}
 use Rattle.book.specs.Held.{Held}
 use Rattle.catalog.specs.Catalog.{Catalog}
@@ -27,6 +27,6 @@ module _ (capacity : Sizes) (host : List ℕ) (c : Catalog) (t : Tables) (q : Bi
       map (λ k. Some k) (column_answers (λ _. types_full capacity c t call) (λ _. columns_full capacity c t call) host c (contents t) q)
 
   -- the buffers, of which the book tells, are written over with that
-  pub record AnswersByLaw (b : Held) (types types' : List BoundType) (columns columns' : List binding.BoundColumn) : Type 0 where
+  pub record AnswersByLaw (b : Held) (types types' : List BoundType) (columns columns' : List code.BoundColumn) : Type 0 where
     pub types_so : map (type_told b) types' ≡ written_over types_by_law (map (type_told b) types)
     pub columns_so : map (column_told b) columns' ≡ written_over columns_by_law (map (column_told b) columns)
