@@ -15,7 +15,8 @@ use Rattle.book.specs.Held.{Held}
 use Rattle.book.specs.Stands.{Stands}
 use Rattle.binding.specs.Whole.{bound_ending}
 use Rattle.binding.specs.declared.whole.Rounds.{Rounds}
-use Rattle.calls.specs.Endings.{TellsOf, ending_of}
+use Rattle.calls.specs.Endings.{Did, TellsOf, ending_of}
+use Rattle.life.specs.Life.{Agrees}
 use Rattle.faults.specs.Faults.{call_refusal_of, refused_so}
 use Rattle.faults.specs.declared.call.CallFault.{CallFault}
 use Rattle.faults.specs.declared.call.CallFault.TheVariants.{TooLong, NoSlot, BadName, NoOid, Fill, Columns}
@@ -70,3 +71,10 @@ module _ (c : Catalog) (b : Held) (host : List ℕ) (call : HostCall) where
   pub bound_layers : (r : Result Rounds CallFault) → Ends (bound_ending r) → IfErr r (λ fault. (t : Tables) → Stands b t → TellsOf (asked_within b.capacity host c t call).ending fault)
   bound_layers (Ok n) ends = tt
   bound_layers (Err fault) ends = layer_at fault ends
+
+pub agreed_layers : (c : Catalog) (b b' : Held) (host : List ℕ) (call : HostCall) (r : Result ℕ CallFault) →
+    ((t : Tables) → Stands b t → Agrees c (contents t) → Did c b b' host call (ending_of r) t) →
+    IfErr r (λ fault. (t : Tables) → Stands b t → Agrees c (contents t) → TellsOf (asked_within b.capacity host c t call).ending fault)
+agreed_layers c b b' host call (Ok n) did = tt
+agreed_layers c b b' host call (Err fault) did = λ t s agree.
+    tells_so (λ _. types_full b.capacity c t (meant host call)) (λ _. columns_full b.capacity c t (meant host call)) host c (contents t) call fault (did t s agree).ends

@@ -6,3 +6,4 @@ pub mod Entered
 pub mod Concluded
 pub mod Binds
 pub mod Answering
+pub mod Named

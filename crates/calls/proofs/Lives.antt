@@ -5,12 +5,12 @@ use Rattle.catalog.specs.Catalog.{Catalog, Grows, Laws, Spent, spent}
 use Rattle.life.specs.Calls.{describe}
 use Rattle.life.specs.HostCalls.{HostCall, host_describe, meant}
 use Rattle.life.specs.Keep.{call_event}
-use Rattle.life.specs.Life.{Lawful}
+use Rattle.life.specs.Life.{Agrees, Lawful}
 use Rattle.life.specs.Steps.{Ending, Event, accepted, rounds_told}
 use Rattle.room.specs.Asked.{asked_left}
 use Rattle.room.specs.Room.{DoneWithin, LivedWithin}
 use Rattle.room.specs.Sizes.{Sizes}
-use Rattle.room.specs.Tables.{Tables, extended, no_tables}
+use Rattle.room.specs.Tables.{Tables, contents, extended, no_tables}
 use Rattle.room.proofs.Asked.{asked_done}
 use Rattle.room.proofs.Extended.{extended_none}
 use Rattle.room.proofs.Room.{room_law}
@@ -79,3 +79,7 @@ pub describes : (h : List Event) (d c : Catalog) (b : Held) (o : ℕ) → Laws c
 describes h d c b o laws l m =
     one_more h d c c b b [] (host_describe o) (accepted 0 0) laws l m (nothing_spent c) refl
     (λ t s _. record { ends = refl; left = untouched c b o t s })
+
+-- tables that a life left agree with the catalog
+pub agreeing : (h : List Event) (c : Catalog) (capacity : Sizes) (t : Tables) → LivedWithin capacity h c t → Agrees c (contents t)
+agreeing h c capacity t l = (room_law capacity h c t l).0.agrees

@@ -20,13 +20,12 @@ ghost use Rattle.room.specs.Asked.{asked_left, asked_within};
 ghost use Rattle.room.specs.Tables.{Tables};
 
 use crate::early::fault_of;
-use binding::memory::ColumnFinds;
+use crate::work::Work;
 use binding::whole::{Rounds, bind_lists};
 use binding::writing::{BoundColumn, BoundType, write_columns, write_types};
 use book::tables::Book;
 use catalog::questions::ColumnCatalog;
 use faults::call::CallFault;
-use finds::tables::Finds;
 use requests::asked::FieldAsked;
 use requests::early::bind_refused;
 
@@ -34,8 +33,7 @@ use requests::early::bind_refused;
 fn bind_asked<C: ColumnCatalog>(
     book: &mut Book<'_>,
     catalog: &mut C,
-    finds: &mut Finds<'_>,
-    columns: &mut ColumnFinds<'_>,
+    work: &mut Work<'_>,
     host: &[u8],
     parameters: &[u32],
     fields: &[FieldAsked],
@@ -58,7 +56,14 @@ fn bind_asked<C: ColumnCatalog>(
     match bind_refused(host, parameters, fields, parameter_slots, column_slots) {
         Some(early) => Err(fault_of(early)),
         None => bind_lists(
-            book, catalog, finds, columns, parameters, fields, queries, origins,
+            book,
+            catalog,
+            &mut work.finds,
+            &mut work.columns,
+            parameters,
+            fields,
+            queries,
+            origins,
         ),
     }
 }
@@ -69,8 +74,7 @@ fn bind_asked<C: ColumnCatalog>(
 pub fn bind<C: ColumnCatalog>(
     book: &mut Book<'_>,
     catalog: &mut C,
-    finds: &mut Finds<'_>,
-    columns: &mut ColumnFinds<'_>,
+    work: &mut Work<'_>,
     host: &[u8],
     parameters: &[u32],
     fields: &[FieldAsked],
@@ -113,8 +117,7 @@ pub fn bind<C: ColumnCatalog>(
     let rounds = bind_asked(
         book,
         catalog,
-        finds,
-        columns,
+        work,
         host,
         parameters,
         fields,

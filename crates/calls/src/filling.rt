@@ -13,10 +13,10 @@ ghost use Rattle.room.specs.Asked.{asked_within};
 ghost use Rattle.room.specs.Tables.{Tables};
 
 use crate::early::{carried, fault_of};
+use crate::work::Work;
 use book::tables::Book;
 use catalog::questions::TypeCatalog;
 use faults::call::CallFault;
-use finds::tables::Finds;
 use requests::early::fill_refused;
 use resolve::filling;
 
@@ -24,7 +24,7 @@ use resolve::filling;
 fn fill_asked<C: TypeCatalog>(
     book: &mut Book<'_>,
     catalog: &mut C,
-    finds: &mut Finds<'_>,
+    work: &mut Work<'_>,
     oids: &[u32],
 ) -> Result<u8, CallFault>
     ensures did { (t : Tables) → Stands (held_of book.old) t →
@@ -35,7 +35,7 @@ fn fill_asked<C: TypeCatalog>(
 {
     match fill_refused(oids) {
         Some(early) => Err(fault_of(early)),
-        None => carried(filling::fill(book, catalog, finds, oids)),
+        None => carried(filling::fill(book, catalog, &mut work.finds, oids)),
     }
 }
 
@@ -43,7 +43,7 @@ fn fill_asked<C: TypeCatalog>(
 pub fn fill<C: TypeCatalog>(
     book: &mut Book<'_>,
     catalog: &mut C,
-    finds: &mut Finds<'_>,
+    work: &mut Work<'_>,
     oids: &[u32],
 ) -> Result<u8, CallFault>
     ensures did { (t : Tables) → Stands (held_of book.old) t →
@@ -56,5 +56,5 @@ pub fn fill<C: TypeCatalog>(
     ensures lives { (h : List Event) → (d : Catalog) → HasLived h d (held_of book.old) → Grows d (C.meaning catalog.old) →
         LawHolds (call_event (C.meaning catalog.old) (fill_call oids.now) (ending_of result) ∷ h) (C.meaning catalog.new) (held_of book.new) }
 {
-    fill_asked(book, catalog, finds, oids)
+    fill_asked(book, catalog, work, oids)
 }

@@ -1,18 +1,21 @@
 // Resolve: its rounds, what goes into the book, and the OIDs of its entries.
-ghost use Rattle.std.specs.Prelude.{◌≡◌, ℕ, ◌≤◌, IfErr, IfOk, List, MatchResult, false, true, None, length, map, option_map};
+ghost use Rattle.std.specs.Prelude.{◌≡◌, ℕ, ◌∷◌, ◌≤◌, IfErr, IfOk, List, MatchResult, false, true, None, length, map, option_map};
 ghost use Rattle.book.specs.Book.{held_of};
 ghost use Rattle.book.specs.Held.{book_held};
 ghost use Rattle.book.specs.Stands.{Stands};
 ghost use Rattle.book.specs.Sizes.{position_of};
-ghost use Rattle.calls.specs.Endings.{Did, ending_of};
+ghost use Rattle.book.specs.Lived.{HasLived, LawHolds};
+ghost use Rattle.calls.specs.Answers.{oids_by_law};
+ghost use Rattle.calls.specs.Endings.{Did, TellsOf, ending_of};
 ghost use Rattle.calls.specs.Resolving.{EntriesDone, EntriesKept, EntriesRefused, Few, Noted};
-ghost use Rattle.catalog.specs.Catalog.{Catalog, Laws, Spent};
+ghost use Rattle.catalog.specs.Catalog.{Catalog, Grows, Laws, Spent};
 ghost use Rattle.entries.specs.Answers.{all_written, asked_for, led, without_oid};
 ghost use Rattle.entries.specs.Notes.{leads_told};
 ghost use Rattle.faults.specs.Faults.{refusal_of};
 ghost use Rattle.finds.specs.Keeping.{SettledBy};
 ghost use Rattle.finds.specs.Finds.{ReadFrom, queue_of, reads_of, rows_of};
-ghost use Rattle.life.specs.Calls.{resolve};
+ghost use Rattle.life.specs.Calls.{resolve as resolve_meant};
+ghost use Rattle.life.specs.Keep.{call_event};
 ghost use Rattle.finds.specs.Resolving.{entry_lead};
 ghost use Rattle.life.specs.Buffers.{written_over};
 ghost use Rattle.life.specs.HostCalls.{host_resolve};
@@ -20,11 +23,12 @@ ghost use Rattle.life.specs.Life.{Agrees};
 ghost use Rattle.life.specs.Lists.{first_place};
 ghost use Rattle.life.specs.Outcomes.{closing};
 ghost use Rattle.life.specs.Resolve.{oids};
-ghost use Rattle.life.specs.Steps.{accepts, keeps_finds, rounds_told as told_rounds};
+ghost use Rattle.life.specs.Steps.{Event, accepts, keeps_finds, rounds_told as told_rounds};
 ghost use Rattle.requests.specs.Early.{resolve_asked as resolve_of};
 ghost use Rattle.requests.specs.Asked.{declared_by};
 ghost use Rattle.resolve.specs.Fills.{FullAt, left_over};
 ghost use Rattle.resolve.specs.Walks.{known_to, rounds_told};
+ghost use Rattle.room.specs.Asked.{asked_within};
 ghost use Rattle.room.specs.Added.{types_added, with_types};
 ghost use Rattle.room.specs.Room.{limited};
 ghost use Rattle.room.specs.Sizes.{first_full, sizes_of};
@@ -63,7 +67,7 @@ fn full_table(
     ensures { (c : Catalog) → Laws c → ReadFrom c finds.now → SettledBy c (book_held (held_of book.now)).descriptors finds.now →
         (t : Tables) → Stands (held_of book.now) t → Few host.now entries.now → 32768 ≤ length text.old → 512 ≤ length names.old →
         (es : List ℕ) → Noted c (held_of book.now) finds.now notes.now (declared_by host.now entries.now) es →
-        option_map position_of result ≡ first_full (held_of book.now).capacity (held_of book.now).taken (sizes_of (types_added c t (resolve (declared_by host.now entries.now)) (reads_of finds.now) es)) }
+        option_map position_of result ≡ first_full (held_of book.now).capacity (held_of book.now).taken (sizes_of (types_added c t (resolve_meant (declared_by host.now entries.now)) (reads_of finds.now) es)) }
 {
     let mut seen = NameIndex::new(text, names);
     let leads = notes.leads();
@@ -92,9 +96,9 @@ fn keep_entries(
     ensures kept { (c : Catalog) → Laws c → ReadFrom c finds.old → (t : Tables) → Stands (held_of book.old) t →
         Few host.now entries.now → 32768 ≤ length text.old → 512 ≤ length names.old →
         (es : List ℕ) → Noted c (held_of book.old) finds.old notes.now (declared_by host.now entries.now) es →
-        let full = first_full (held_of book.old).capacity (held_of book.old).taken (sizes_of (types_added c t (resolve (declared_by host.now entries.now)) (reads_of finds.old) es)) in
+        let full = first_full (held_of book.old).capacity (held_of book.old).taken (sizes_of (types_added c t (resolve_meant (declared_by host.now entries.now)) (reads_of finds.old) es)) in
         MatchResult result
-        (λ _. (full ≡ None) × Stands (held_of book.new) (with_types c t (resolve (declared_by host.now entries.now)) (reads_of finds.old) es))
+        (λ _. (full ≡ None) × Stands (held_of book.new) (with_types c t (resolve_meant (declared_by host.now entries.now)) (reads_of finds.old) es))
         (λ fault. FullAt full rounds fault) }
 {
     finds.settle(book);
@@ -190,7 +194,7 @@ fn resolve_entries<C: TypeCatalog>(
     ensures unkept { keeps_finds (ending_of result) ≡ false → held_of book.new ≡ held_of book.old }
     ensures written { accepts (ending_of result) ≡ true → Few host.now entries.now → 32768 ≤ length text.old → 512 ≤ length names.old →
         (t : Tables) → Stands (held_of book.old) t → Agrees (C.meaning catalog.old) (contents t) → length entries.now ≤ length out.old →
-        out.new ≡ written_over (oids (C.meaning catalog.old) (contents t) (limited (held_of book.old).capacity (C.meaning catalog.old) t (resolve (declared_by host.now entries.now))).left.descriptors (declared_by host.now entries.now)) out.old }
+        out.new ≡ written_over (oids (C.meaning catalog.old) (contents t) (limited (held_of book.old).capacity (C.meaning catalog.old) t (resolve_meant (declared_by host.now entries.now))).left.descriptors (declared_by host.now entries.now)) out.old }
     ensures unwritten { accepts (ending_of result) ≡ false → out.new ≡ out.old }
 {
     let rounds = fill_entries(finds, notes, text, names, book, catalog, host, entries)?;
@@ -211,8 +215,8 @@ fn resolve_asked<C: TypeCatalog>(
     ensures cost { Spent (told_rounds (ending_of result)) (C.meaning catalog.old) (C.meaning catalog.new) }
     ensures capacity { (held_of book.new).capacity ≡ (held_of book.old).capacity }
     ensures unkept { keeps_finds (ending_of result) ≡ false → held_of book.new ≡ held_of book.old }
-    ensures written { accepts (ending_of result) ≡ true → (t : Tables) → Stands (held_of book.old) t → Agrees (C.meaning catalog.old) (contents t) →
-        out.new ≡ written_over (oids (C.meaning catalog.old) (contents t) (limited (held_of book.old).capacity (C.meaning catalog.old) t (resolve (declared_by host.now entries.now))).left.descriptors (declared_by host.now entries.now)) out.old }
+    ensures written { (t : Tables) → Stands (held_of book.old) t → Agrees (C.meaning catalog.old) (contents t) →
+        out.new ≡ written_over (oids_by_law (held_of book.old).capacity host.now (C.meaning catalog.old) t (resolve_of entries.now (length out.old))) out.old }
     ensures unwritten { accepts (ending_of result) ≡ false → out.new ≡ out.old }
 {
     match resolve_refused(host, entries, out.len()) {
@@ -229,4 +233,30 @@ fn resolve_asked<C: TypeCatalog>(
             out,
         ),
     }
+}
+
+// Resolves: what the entries lead to goes into the book, with their names and arrays; then the OID of each entry is written over the
+// buffer. A resolve that is refused writes nothing.
+pub fn resolve<C: TypeCatalog>(
+    book: &mut Book<'_>,
+    catalog: &mut C,
+    work: &mut Work<'_>,
+    host: &[u8],
+    entries: &[TypeAsked],
+    out: &mut [u32],
+) -> Result<u8, CallFault>
+    ensures did { (t : Tables) → Stands (held_of book.old) t → Agrees (C.meaning catalog.old) (contents t) →
+        Did (C.meaning catalog.old) (held_of book.old) (held_of book.new) host.now (host_resolve (resolve_of entries.now (length out.old))) (ending_of result) t }
+    ensures layer { IfErr result (λ fault. (t : Tables) → Stands (held_of book.old) t → Agrees (C.meaning catalog.old) (contents t) →
+        TellsOf (asked_within (held_of book.old).capacity host.now (C.meaning catalog.old) t (host_resolve (resolve_of entries.now (length out.old)))).ending fault) }
+    ensures cost { Spent (told_rounds (ending_of result)) (C.meaning catalog.old) (C.meaning catalog.new) }
+    ensures capacity { (held_of book.new).capacity ≡ (held_of book.old).capacity }
+    ensures unkept { keeps_finds (ending_of result) ≡ false → held_of book.new ≡ held_of book.old }
+    ensures lives { (h : List Event) → (d : Catalog) → HasLived h d (held_of book.old) → Grows d (C.meaning catalog.old) →
+        LawHolds (call_event (C.meaning catalog.old) (resolve_meant (declared_by host.now entries.now)) (ending_of result) ∷ h) (C.meaning catalog.new) (held_of book.new) }
+    ensures written { (t : Tables) → Stands (held_of book.old) t → Agrees (C.meaning catalog.old) (contents t) →
+        out.new ≡ written_over (oids_by_law (held_of book.old).capacity host.now (C.meaning catalog.old) t (resolve_of entries.now (length out.old))) out.old }
+    ensures unwritten { accepts (ending_of result) ≡ false → out.new ≡ out.old }
+{
+    resolve_asked(book, catalog, work, host, entries, out)
 }

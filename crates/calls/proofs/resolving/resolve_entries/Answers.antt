@@ -6,7 +6,7 @@ use Rattle.entries.specs.Notes.{leads_told}
 use Rattle.finds.specs.Finds.{reads_of}
 use Rattle.requests.specs.Asked.{declared_by}
 use Rattle.calls.proofs.Concluded.{done, written}
-use Rattle.calls.proofs.Layers.{not_of_columns}
+use Rattle.binding.proofs.BindDone.{not_of_columns}
 use Rattle.calls.proofs.resolving.resolve_entries.Goals as goal
 
 pub returns-in_err-rounds-clause-did : goal.returns-in_err-rounds-clause-did
