@@ -10,7 +10,7 @@ use Rattle.type_info.specs.declared.oid.Oid.{Oid}
 use Rattle.indexes.specs.Known.{GainedName, Names, known}
 use Rattle.unfolding.specs.Lists.{Mem}
 use Rattle.life.specs.Lists.{fresh_by}
-use Rattle.life.proofs.Lists.{chosen_false, chosen_true, same_truth}
+use Rattle.life.proofs.Lists.{chosen_false, chosen_true, not_both, same_truth}
 use Rattle.room.specs.Sizes.{Sizes}
 use Rattle.book.specs.Held.{Held, no_sizes, size_of_name, sum_of}
 use Rattle.finds.specs.declared.tables.Finds.{Finds}
@@ -139,3 +139,12 @@ module _ (h : Held) (f : Finds) where
 pub room_first : (x : Option Lead) (xs : List Lead) (seen : Names Oid) → RoomForAll (cons_option x xs) seen → RoomFor x seen
 room_first None xs seen r = tt
 room_first (Some x) xs seen r = (omega (arith, r.slots), record { lent = omega (arith, r.text, bytes_first x xs); told = omega (arith, r.few, bytes_first x xs) })
+
+-- a name that is passed over, and one that is counted
+pub over : (b : Bool) (x : Lead) (seen : Names Oid) → b ≡ true → CountedName b x seen seen no_sizes
+over true x seen e = (refl, refl)
+over false x seen e = absurd (not_both e refl)
+
+pub counts : (b : Bool) (x : Lead) (seen now : Names Oid) → b ≡ false → GainedName seen x.0 (record { 0 = x.1 }) now → CountedName b x seen now (size_of_name x.0)
+counts true x seen now e gained = absurd (not_both refl e)
+counts false x seen now e gained = (refl, gained)

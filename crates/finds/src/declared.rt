@@ -11,14 +11,13 @@ ghost use Rattle.catalog.specs.Shape.{Name};
 ghost use Rattle.finds.specs.Resolving.{ApartOf, CountedLead, LeadsOf, RoomFor, RoomForAll, apart_kept, apart_size, apart_told, declared_bytes, enough, entry_name, lead_at, lead_kept, lead_kept_if, lead_size, leads_told, left_out, name_length, names_settled, new_leads, size_of_resolved, with_resolved};
 ghost use Rattle.finds.specs.Finds.{ReadFrom, reads_of};
 ghost use Rattle.finds.specs.Keeping.{SettledBy, each, link_kept, new_link_size, size_of_all};
-ghost use Rattle.indexes.specs.Known.{HasRoom, known};
+ghost use Rattle.indexes.specs.Known.{known};
 ghost use Rattle.life.specs.Calls.{resolve};
 ghost use Rattle.life.specs.HostCalls.{meant_type};
 ghost use Rattle.requests.specs.Asked.{declared_by, type_asked};
 ghost use Rattle.room.specs.Added.{declared_names, types_added, with_types};
 ghost use Rattle.room.specs.Sizes.{first_full, sizes_of};
 ghost use Rattle.room.specs.Tables.{Tables};
-ghost use Rattle.slots.specs.Slots.{filled};
 ghost use Rattle.slots.specs.Text.{lent};
 ghost use Rattle.unfolding.specs.Lists.{Mem};
 
