@@ -55,6 +55,7 @@ pub record ApartOf (c : Catalog) (f : Finds) (apart : List (Oid × Option Oid)) 
 abbrev pub Lead : Type 0
 Lead = Name × ℕ
 
+-- the name of an entry, or of its element, and how long it is
 abbrev pub entry_name : Declared → Option Name
 entry_name (of_oid o) = None
 entry_name (of_name n) = Some n
@@ -118,12 +119,14 @@ same_name x y = bytes_eq x.0 y.0
 abbrev pub new_leads : Held → Finds → List Lead → List Lead
 new_leads h f leads = fresh_by same_name (left_out h f) [] leads
 
+-- how much a name and an array link take
 abbrev pub lead_size : Lead → Sizes
 lead_size x = size_of_name x.0
 
 abbrev pub apart_size : Held → Apart → Sizes
 apart_size h x = new_link_size h x.0 x.1
 
+-- what the step found, the names declared and the array links read apart take, together
 abbrev pub size_of_resolved : Held → Finds → List Lead → List Apart → Sizes
 size_of_resolved h f leads apart = sum_of (size_of_finds h f) (sum_of (size_of_all lead_size (new_leads h f leads)) (size_of_all (apart_size h) apart))
 
@@ -132,10 +135,11 @@ abbrev pub RoomFor : Option Lead → Names Oid → Type 0
 RoomFor None seen = Unit {0}
 RoomFor (Some x) seen = HasRoom seen (length x.0)
 
--- and for those of a list, which are few
+-- how long the names are, together
 abbrev pub lead_bytes : List Lead → ℕ
 lead_bytes xs = sum_by (λ (x : Lead). length x.0) xs
 
+-- there is room for all these, which are not long
 pub record RoomForAll (xs : List Lead) (seen : Names Oid) : Type 0 where
   pub slots : filled seen.slots + length xs ≤ length seen.slots
   pub text : length seen.text.text + lead_bytes xs ≤ lent seen.text
