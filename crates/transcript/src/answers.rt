@@ -85,7 +85,7 @@ impl fmt::Display for Addition {
 }
 
 #[derive(Clone, Copy)]
-struct Refusal(Told);
+pub(crate) struct Refusal(pub(crate) Told);
 
 impl fmt::Display for Refusal {
     ghost output = { λ refusal. Some (refusal_text refusal.0) };
