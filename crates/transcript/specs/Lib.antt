@@ -1,3 +1,4 @@
 pub mod Appends
 pub mod Printed
 pub mod Steps
+pub mod Types

@@ -3,4 +3,5 @@
 
 pub mod answers;
 pub mod steps;
+pub mod types;
 pub mod words;
