@@ -38,20 +38,20 @@ made_text None = codes ""
 made_text (Some o) = codes " of " ++ decimal o
 
 -- only a domain, an array and a range tell what they are made of
-abbrev pub kind_text : TypeKind → Option ℕ → List ℕ
-kind_text Simple of = codes "simple"
-kind_text Pseudo of = codes "pseudo"
-kind_text Domain of = codes "domain" ++ made_text of
-kind_text Array of = codes "array" ++ made_text of
-kind_text Range of = codes "range" ++ made_text of
-kind_text Enum of = codes "enum"
-kind_text Composite of = codes "composite"
+abbrev pub settled_kind_text : TypeKind → Option ℕ → List ℕ
+settled_kind_text Simple of = codes "simple"
+settled_kind_text Pseudo of = codes "pseudo"
+settled_kind_text Domain of = codes "domain" ++ made_text of
+settled_kind_text Array of = codes "array" ++ made_text of
+settled_kind_text Range of = codes "range" ++ made_text of
+settled_kind_text Enum of = codes "enum"
+settled_kind_text Composite of = codes "composite"
 
-abbrev pub head_text : TypeHead → List ℕ
-head_text h = decimal h.oid ++ (codes " " ++ (shown h.name ++ (codes " " ++ kind_text h.kind h.of)))
+abbrev pub settled_head_text : TypeHead → List ℕ
+settled_head_text h = decimal h.oid ++ (codes " " ++ (shown h.name ++ (codes " " ++ settled_kind_text h.kind h.of)))
 
 abbrev pub type_head_text : TypeTold → List ℕ
-type_head_text t = head_text (head_of_type t)
+type_head_text t = settled_head_text (head_of_type t)
 
 -- nothing of a type that the book does not have
 abbrev pub head_known_text : Option TypeTold → List ℕ

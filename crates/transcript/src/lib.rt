@@ -3,5 +3,6 @@
 
 pub mod answers;
 pub mod steps;
+pub mod tree;
 pub mod types;
 pub mod words;

@@ -5,7 +5,7 @@ ghost use Rattle.book.specs.Book.{held_of};
 ghost use Rattle.book.specs.Settled.{settled_told};
 ghost use Rattle.catalog.specs.Meaning.{oid_told};
 ghost use Rattle.transcript.specs.Appends.{Appends};
-ghost use Rattle.transcript.specs.Types.{bound_column_text, column_text, element_of_text, head_known_text, head_of_type, head_text, head_told, kind_text, made_of, made_text, origin_text, origin_told, parameter_text, typed_text};
+ghost use Rattle.transcript.specs.Types.{bound_column_text, column_text, element_of_text, head_known_text, head_of_type, settled_head_text, head_told, settled_kind_text, made_of, made_text, origin_text, origin_told, parameter_text, typed_text};
 
 use crate::words::{Shown, print};
 use book::reading::ColumnText;
@@ -35,7 +35,7 @@ impl fmt::Display for MadeOf {
 struct Kind(TypeKind, MadeOf);
 
 impl fmt::Display for Kind {
-    ghost output = { λ kind. Some (kind_text kind.0 (oid_told kind.1.0)) };
+    ghost output = { λ kind. Some (settled_kind_text kind.0 (oid_told kind.1.0)) };
 
     fn fmt<W: fmt::Write>(&self, f: &mut fmt::Formatter<W>) -> fmt::Result {
         let Kind(kind, made) = *self;
@@ -62,7 +62,7 @@ pub(crate) struct HeadText<'b> {
 }
 
 impl fmt::Display for HeadText<'_> {
-    ghost output = { λ head. Some (head_text (head_told head)) };
+    ghost output = { λ head. Some (settled_head_text (head_told head)) };
 
     fn fmt<W: fmt::Write>(&self, f: &mut fmt::Formatter<W>) -> fmt::Result {
         let HeadText {
