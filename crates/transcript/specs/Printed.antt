@@ -10,7 +10,7 @@ use Rattle.transcript.specs.declared.answers.Addition.TheVariants.{Row, Name, Co
 use Rattle.transcript.specs.declared.answers.InUse.{InUse}
 use Rattle.transcript.specs.declared.answers.InUse.TheVariants.{Rows, Shelf}
 use Rattle.transcript.specs.declared.answers.Reason.{Reason}
-use Rattle.transcript.specs.declared.answers.Reason.TheVariants.{NoSuchLine, WordCount, NotANumber, NotAnAttributeNumber, NotAName, NotACode, NotAnEntry, NotACatalog, TooMuchText}
+use Rattle.transcript.specs.declared.answers.Reason.TheVariants.{NoSuchLine, WordCount, NotANumber, NotAnAttributeNumber, NotAName, NotACode, NotAnEntry, NotACatalog, NotYesOrNo, NotASize, TooMuchText}
 
 abbrev pub kind_text : Kind → List ℕ
 kind_text simple = codes "simple"
@@ -70,6 +70,8 @@ reason_text NotAName = codes "not a name"
 reason_text NotACode = codes "not one byte"
 reason_text NotAnEntry = codes "not an entry"
 reason_text NotACatalog = codes "neither rows nor shelf"
+reason_text NotYesOrNo = codes "neither yes nor no"
+reason_text NotASize = codes "not the size of a table"
 reason_text TooMuchText = codes "more text than 32 bits can count"
 
 abbrev pub not_understood_text : ℕ → Reason → List ℕ

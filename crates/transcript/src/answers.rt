@@ -23,6 +23,8 @@ pub enum Reason {
     NotACode,
     NotAnEntry,
     NotACatalog,
+    NotYesOrNo,
+    NotASize,
     TooMuchText,
 }
 
@@ -39,6 +41,8 @@ impl fmt::Display for Reason {
             Reason::NotACode => "not one byte",
             Reason::NotAnEntry => "not an entry",
             Reason::NotACatalog => "neither rows nor shelf",
+            Reason::NotYesOrNo => "neither yes nor no",
+            Reason::NotASize => "not the size of a table",
             Reason::TooMuchText => "more text than 32 bits can count",
         })
     }
