@@ -4,6 +4,8 @@ use Rattle.std.proofs.Common.{◌≡◌, ℕ, false, List, [], ◌∷◌, ◌++�
 use Rattle.std.specs.Str.{bytes_eq}
 use Rattle.keys.specs.declared.span.Span.{Span}
 use Rattle.offers.specs.declared.offer.OfferedAttribute.{OfferedAttribute}
+use Rattle.requests.specs.declared.asked.FieldAsked.{FieldAsked}
+use Rattle.requests.specs.declared.asked.TypeAsked.{TypeAsked}
 use Rattle.script.specs.Words.{only_of}
 use Rattle.transcript.specs.declared.answers.Reason.{Reason}
 use Rattle.transcript.specs.declared.answers.Reason.TheVariants.{WordCount}
@@ -11,6 +13,7 @@ use Rattle.lines.specs.Additions.{column_line}
 use Rattle.lines.specs.Host.{name_placed}
 use Rattle.lines.specs.Reading.{oid_read, onward}
 use Rattle.lines.specs.Rows.{attributes_placed, labels_placed}
+use Rattle.lines.specs.Steps.{field_placed, fields_placed}
 
 -- three words with none or more than one behind them
 pub column_other : (r n t : List ℕ) (ws : List (List ℕ)) → only_of ws ≡ None → column_line (r ∷ (n ∷ (t ∷ ws))) ≡ Err WordCount
@@ -51,3 +54,28 @@ pub attribute_more :
     whole ≡ onward (attributes_placed further rest) (with_attributes after)
 attribute_more whole host name oid further ws rest before after x so_far first placed read push =
     so_far ∙ rw (first, placed, read, push) (before_attributes before x (attributes_placed further rest))
+
+-- the same of numbers
+abbrev pub with_numbers : List ℕ → List ℕ × List (List ℕ) → List ℕ × List (List ℕ)
+with_numbers before p = (before ++ p.0, p.1)
+
+-- of entries
+abbrev pub with_entries : List TypeAsked → List ℕ × List TypeAsked → Result (List ℕ × List TypeAsked) Reason
+with_entries before e = Ok (e.0, before ++ e.1)
+
+-- of fields
+abbrev pub with_fields : List FieldAsked → List ℕ × List FieldAsked → Result (List ℕ × List FieldAsked) Reason
+with_fields before f = Ok (f.0, before ++ f.1)
+
+before_fields : (before : List FieldAsked) (x : FieldAsked) (r : Result (List ℕ × List FieldAsked) Reason) →
+    onward (onward r (with_fields (x ∷ []))) (with_fields before) ≡ onward r (with_fields (before ++ x ∷ []))
+before_fields before x (Ok f) = rw append_assoc
+before_fields before x (Err why) = refl
+
+pub field_more :
+    (whole : Result (List ℕ × List FieldAsked) Reason) (host name oid relation attribute further : List ℕ) (ws rest : List (List ℕ))
+    (before after : List FieldAsked) (x : FieldAsked) → whole ≡ onward (fields_placed host ws) (with_fields before) →
+    ws ≡ name ∷ (oid ∷ (relation ∷ (attribute ∷ rest))) → field_placed host name oid relation attribute ≡ Ok (further, x) →
+    after ≡ before ++ x ∷ [] → whole ≡ onward (fields_placed further rest) (with_fields after)
+field_more whole host name oid relation attribute further ws rest before after x so_far first placed push =
+    so_far ∙ rw (first, placed, push) (before_fields before x (fields_placed further rest))

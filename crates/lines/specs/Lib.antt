@@ -5,4 +5,6 @@ pub mod Host
 pub mod Catalogs
 pub mod Additions
 pub mod Rows
+pub mod Steps
+pub mod Books
 pub mod Verbs

@@ -1,9 +1,10 @@
 -- What the words behind the first of a line say, or why they say nothing.
 -- Assumes nothing.
-use Rattle.std.specs.Prelude.{◌≡◌, ℕ, ◌^◌, not, List, [], ◌∷◌, None, Ok, Err, Option, Result, ◌==◌}
+use Rattle.std.specs.Prelude.{◌≡◌, ℕ, ◌^◌, not, List, [], ◌∷◌, pos, None, Ok, Err, Option, Result, ◌==◌}
 use Rattle.std.specs.Bool.{then_some}
 use Rattle.std.specs.Borrow.{Bor}
 use Rattle.std.specs.Option.{ok_or, option_map}
+use Rattle.std.specs.Ordering.{int_eq}
 use Rattle.script.specs.Names.{named}
 use Rattle.script.specs.Numbers.{number_below, signed_number}
 use Rattle.script.specs.Words.{only_of, words}
@@ -43,7 +44,7 @@ abbrev pub FirstRead : List (List ℕ) → Result (Bor (List ℕ) × Bor (List �
 FirstRead ws (Ok found) = ws ≡ found.0.now ∷ words found.1.now
 FirstRead ws (Err why) = (ws ≡ []) × (why ≡ WordCount)
 
--- a number; an OID; an OID where 0 (the number) says that it is absent; an attribute number
+-- a number; an OID; an attribute number; either of these where 0 (the number) says that it is absent
 abbrev pub number_read : List ℕ → Result ℕ Reason
 number_read word = ok_or (number_below (2 ^ 32) word) NotANumber
 
@@ -55,6 +56,9 @@ link_read word = seen (λ o. then_some (not (o.0 == 0)) o) (oid_read word)
 
 abbrev pub attribute_number_read : List ℕ → Result AttributeNumber Reason
 attribute_number_read word = ok_or (option_map (λ n. record { 0 = n }) (signed_number word)) NotAnAttributeNumber
+
+abbrev pub attribute_link_read : List ℕ → Result (Option AttributeNumber) Reason
+attribute_link_read word = seen (λ a. then_some (not (int_eq a.0 (pos 0))) a) (attribute_number_read word)
 
 -- a name; a code, which is one byte written as a name
 abbrev pub name_read : List ℕ → Result (List ℕ) Reason

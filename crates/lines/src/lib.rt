@@ -2,10 +2,12 @@
 #![tactic(auto)]
 
 pub mod additions;
+pub mod books;
 pub mod catalogs;
 pub mod entry;
 pub mod host;
 pub mod row;
+pub mod steps;
 pub mod trouble;
 pub mod verb;
 pub mod word;

@@ -1,7 +1,7 @@
 // What a single word says.
 ghost use Rattle.std.specs.Prelude.{◌≡◌, ◌<◌, length, IfOk};
 ghost use Rattle.script.specs.Words.{words};
-ghost use Rattle.lines.specs.Reading.{FirstRead, OnlyRead, Reads, attribute_number_read, code_read, link_read, name_read, number_read, oid_read};
+ghost use Rattle.lines.specs.Reading.{FirstRead, OnlyRead, Reads, attribute_link_read, attribute_number_read, code_read, link_read, name_read, number_read, oid_read};
 
 use crate::trouble::Trouble;
 use script::names::decode;
@@ -54,6 +54,16 @@ pub fn read_attribute_number(word: &[u8]) -> Result<AttributeNumber, Reason>
     signed(word)
         .map(AttributeNumber)
         .ok_or(Reason::NotAnAttributeNumber)
+}
+
+// An attribute number where 0 says that it is absent.
+pub fn read_attribute_link(word: &[u8]) -> Result<Option<AttributeNumber>, Reason>
+    ensures { result ≡ attribute_link_read word.now }
+{
+    match read_attribute_number(word)? {
+        AttributeNumber(0) => Ok(None),
+        number => Ok(Some(number)),
+    }
 }
 
 // The name that a word writes.
