@@ -1,9 +1,9 @@
 // A lab with a domain over a composite of an enum and int4, a row that is malformed and one that leads nowhere.
 use book::tables::Book;
+use faults::fill::FillFault;
 use finds::tables::Finds;
 use keys::span::Span;
 use offers::offer::{OfferedAttribute, OfferedRow};
-use faults::fill::FillFault;
 use resolve::filling::fill;
 use row_table::table::RowTable;
 use std::fmt;

@@ -2,17 +2,18 @@
 #![tactic(auto)]
 
 mod fills;
-mod memory;
 
 use fills::{Lab, cases};
-use memory::{BookRoom, FindsRoom, TableRoom};
+use heap::books::{BookMemory, FULL};
+use heap::steps::FindsMemory;
+use heap::tables::TableMemory;
 
 fn main(rt: HostRuntime) -> anyhow::Result<()> {
     let alloc = rt.alloc();
-    let mut slots = BookRoom::new(alloc)?;
-    let mut finds = FindsRoom::new(alloc)?;
-    let mut rows = TableRoom::new(alloc)?;
-    let Some(mut lab) = Lab::new(slots.lend(), finds.lend(), rows.lend()) else {
+    let mut slots = BookMemory::new(alloc)?;
+    let mut finds = FindsMemory::new(alloc)?;
+    let mut rows = TableMemory::new(alloc)?;
+    let Some(mut lab) = Lab::new(slots.lend(FULL), finds.lend(), rows.lend()) else {
         println!(rt; "the memory has another size")?;
         return Ok(());
     };

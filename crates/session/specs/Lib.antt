@@ -1,4 +1,3 @@
 pub mod Catalogs
-pub mod Memory
 pub mod Lines
 pub mod Run

@@ -2,7 +2,6 @@
 #![tactic(auto)]
 
 pub mod catalogs;
-pub mod memory;
 pub mod questions;
 pub mod requests;
 pub mod session;

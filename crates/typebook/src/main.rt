@@ -4,7 +4,7 @@
 ghost use Rattle.std.specs.Prelude.{◌≡◌, vec_len, OnOk};
 
 use anyhow::anyhow;
-use session::memory::TableMemory;
+use heap::tables::TableMemory;
 use session::session::Session;
 use std::io::{Read, Write};
 use std::process::ExitCode;

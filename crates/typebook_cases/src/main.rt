@@ -2,7 +2,7 @@
 #![tactic(auto)]
 
 use anyhow::anyhow;
-use session::memory::TableMemory;
+use heap::tables::TableMemory;
 use session::session::Session;
 use std::fs;
 use std::io::Write;

@@ -1,7 +1,7 @@
-// Memory for a row table, on the heap.
+// Memory for a row table.
 ghost use Rattle.std.specs.Prelude.{IfOk};
 ghost use Rattle.row_table.specs.Table.{Whole};
-ghost use Rattle.session.specs.Memory.{Enough};
+ghost use Rattle.heap.specs.Memory.{Enough};
 
 use catalog::row::Row;
 use catalog::values::{LongName, ShortName};
