@@ -1,3 +1,4 @@
 pub mod NoLine
 pub mod Troubles
 pub mod Added
+pub mod Answered

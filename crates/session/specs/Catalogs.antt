@@ -27,6 +27,14 @@ allowing c n Shelf = record c { shelf = n }
 abbrev pub at_allowance : Held → ℕ → Held
 at_allowance c n = allowing c n c.in_use
 
+-- what the catalog in use may spend
+abbrev pub spendable : Held → InUse → ℕ
+spendable c Rows = c.rows.allowance
+spendable c Shelf = c.shelf
+
+abbrev pub allowance_in_use : Held → ℕ
+allowance_in_use c = spendable c c.in_use
+
 -- what the catalogs of the code hold
 abbrev pub held_by : Catalogs → Held
 held_by c = record { rows = held_of c.rows; shelf = c.shelf; in_use = c.in_use }

@@ -1,7 +1,11 @@
 -- A run of a script: how its lines are counted, what they leave, and what is printed.
 -- Assumes nothing.
 use Rattle.std.specs.Prelude.{◌≡◌, ℕ, ◌+◌, ◌-◌, ◌^◌, min, Bool, false, if◌then◌else◌, List, [], ◌∷◌, ◌++◌, Ok, Err, Result, ◌==◌}
+use Rattle.std.specs.declared.alloc.AllocError.{AllocError}
+use Rattle.lines.specs.declared.trouble.Trouble.{Trouble}
+use Rattle.lines.specs.declared.trouble.Trouble.TheVariants.{NotUnderstood, OutOfMemory}
 use Rattle.script.specs.Words.{words}
+use Rattle.transcript.specs.Appends.{Appends}
 use Rattle.transcript.specs.Printed.{echo_text, not_understood_text}
 use Rattle.transcript.specs.declared.answers.Reason.{Reason}
 use Rattle.session.specs.Catalogs.{Held, at_start, held_by}
@@ -34,6 +38,12 @@ replied (Err why) s = record s { misread = one_more s.misread }
 abbrev pub Replied : Result Reply Reason → Run → Run → Type 0
 Replied told before after = after ≡ replied told before
 
+-- a line of which it is known whether it was a call that was refused, or why it is not understood
+abbrev pub ended : Result Bool Trouble → Run → Run
+ended (Ok refused) s = record s { refused = if refused then one_more s.refused else s.refused }
+ended (Err (NotUnderstood why)) s = record s { misread = one_more s.misread }
+ended (Err (OutOfMemory e)) s = s
+
 -- a line whose first word begins with # (35) is a comment
 abbrev pub is_comment : List ℕ → Bool
 is_comment [] = false
@@ -59,6 +69,12 @@ all_done s (line ∷ ls) = all_done (done s (words line)) ls
 abbrev pub answered : ℕ → Result Reply Reason → List ℕ
 answered number (Ok told) = told.text
 answered number (Err why) = not_understood_text number why
+
+-- what is printed behind the answer of such a line; want of memory is handed on
+abbrev pub Closes : ℕ → Result Bool Trouble → List ℕ → List ℕ → Result (Unit {0}) AllocError → Type 0
+Closes number (Ok refused) before after r = (after ≡ before) × (r ≡ Ok tt)
+Closes number (Err (NotUnderstood why)) before after r = Appends (not_understood_text number why) before after r
+Closes number (Err (OutOfMemory e)) before after r = r ≡ Err e
 
 -- what is printed for a line: nothing for a blank line and for a comment
 abbrev pub printed_for : Run → List ℕ → List (List ℕ) → List ℕ

@@ -1,7 +1,7 @@
 // The catalogs that a script works on, and which of them is in use.
 ghost use Rattle.std.specs.Prelude.{◌≡◌, MatchOption};
 ghost use Rattle.row_table.specs.Table.{Whole};
-ghost use Rattle.session.specs.Catalogs.{at_allowance, at_start, held_by, using};
+ghost use Rattle.session.specs.Catalogs.{allowance_in_use, at_allowance, at_start, held_by, using};
 
 use row_table::memory::Memory;
 use row_table::table::RowTable;
@@ -14,7 +14,7 @@ const ALLOWANCE: u32 = 64;
 #[derive(Drop)]
 pub struct Catalogs<'a> {
     pub(crate) rows: RowTable<'a>,
-    shelf: Shelf,
+    pub(crate) shelf: Shelf,
     in_use: InUse,
 }
 
@@ -45,6 +45,23 @@ impl<'a> Catalogs<'a> {
         match self.in_use {
             InUse::Rows => self.rows.set_allowance(allowance),
             InUse::Shelf => self.shelf.set_allowance(allowance),
+        }
+    }
+
+    // The catalog in use.
+    pub fn in_use(&self) -> InUse
+        ensures { result ≡ (held_by self.now).in_use }
+    {
+        self.in_use
+    }
+
+    // What the catalog in use may spend.
+    pub fn allowance(&self) -> u32
+        ensures { result ≡ allowance_in_use (held_by self.now) }
+    {
+        match self.in_use {
+            InUse::Rows => self.rows.allowance(),
+            InUse::Shelf => self.shelf.allowance(),
         }
     }
 }
