@@ -3,5 +3,5 @@
 
 pub mod catalogs;
 pub mod questions;
-pub mod requests;
+pub mod replies;
 pub mod session;

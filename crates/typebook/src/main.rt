@@ -1,9 +1,15 @@
 // Runs a script, from the file that its only argument names or from standard input, and prints all that it did.
 #![tactic(auto)]
 
-ghost use Rattle.std.specs.Prelude.{◌≡◌, vec_len, OnOk};
+ghost use Rattle.std.specs.Prelude.{◌≡◌, ◌<◌, length, vec_len, IfOk, OnOk};
 
 use anyhow::anyhow;
+use book::tables::Book;
+use desk::run::Left;
+use desk::steps::Desk;
+use finds::tables::Finds;
+use heap::books::{BookMemory, FULL};
+use heap::steps::FindsMemory;
 use heap::tables::TableMemory;
 use session::session::Session;
 use std::io::{Read, Write};
@@ -52,13 +58,44 @@ fn write_out(rt: &HostRuntime, out: &mut Vec<u8>) -> io::Result<()>
     Ok(())
 }
 
-// Carries out every line, writes out what was printed, and tells whether all were understood.
+// Carries out lines on one book until one asks for a new book or the text is at its end, and writes out what was printed.
+fn run_desk<'t>(
+    rt: &HostRuntime,
+    session: &mut Session<'_>,
+    desk: &mut Desk<'_>,
+    text: &'t [u8],
+    out: &mut Vec<u8>,
+) -> anyhow::Result<Left<'t>>
+    requires { vec_len out.old ≡ 0 }
+    ensures forward { IfOk result (λ left. 0 < length text.now → length left.rest.now < length text.now) }
+    ensures empties { IfOk result (λ left. vec_len out.new ≡ 0) }
+{
+    let mut left = Left {
+        rest: text,
+        book: None,
+    };
+    while left.book.is_none() && !left.rest.is_empty() {
+        left = desk.run(session, left.rest, ENOUGH, out)?;
+        write_out(rt, out)?;
+    }
+    Ok(left)
+}
+
+// Carries out every line, on one book after the other, writes out what was printed, and tells whether all were understood.
 fn run(rt: &HostRuntime, session: &mut Session<'_>, text: &[u8]) -> anyhow::Result<bool> {
-    let mut out = Vec::new(rt.alloc());
+    let alloc = rt.alloc();
+    let mut books = BookMemory::new(alloc)?;
+    let mut steps = FindsMemory::new(alloc)?;
+    let mut out = Vec::new(alloc);
     let mut rest = text;
+    let mut slots = FULL;
     while !rest.is_empty() {
-        rest = session.run(rest, ENOUGH, &mut out)?;
-        write_out(rt, &mut out)?;
+        let book = Book::new(books.lend(slots));
+        let finds = Finds::new(steps.lend()).ok_or(anyhow!("no memory for a step"))?;
+        let mut desk = Desk::new(book, finds, alloc);
+        let left = run_desk(rt, session, &mut desk, rest, &mut out)?;
+        rest = left.rest;
+        slots = left.book.unwrap_or(FULL);
     }
     session.close(&mut out)?;
     write_out(rt, &mut out)?;

@@ -1,0 +1,6 @@
+// Carries out the lines of a script that need a book: the steps, and what is asked of their answers.
+#![tactic(auto)]
+
+pub mod bound;
+pub mod run;
+pub mod steps;
