@@ -1,20 +1,24 @@
 // The bound statement that the lines ask about.
-ghost use Rattle.std.specs.Prelude.{◌≡◌, ◌≤◌, length, take, vec_len, IfOk};
+ghost use Rattle.std.specs.Prelude.{◌≡◌, ◌≤◌, length, map, take, vec_len, IfOk};
 ghost use Rattle.std.specs.Option.{option_map};
 ghost use Rattle.desk.specs.Bound.{ordinal_told};
 ghost use Rattle.life.specs.Ordinal.{ordinal as ordinal_of};
 ghost use Rattle.lines.specs.Reading.{Reads};
+ghost use Rattle.requests.specs.declared.asked.FieldAsked.{FieldAsked};
 ghost use Rattle.script.specs.Words.{words};
 
 use keys::span::Span;
 use lines::steps::read_ordinal;
 use lines::trouble::Trouble;
+use requests::asked::FieldAsked;
 use requests::ordinals::ColumnNames;
 use std::alloc::{AllocError, Global};
 use type_info::oid::Ordinal;
 
 // Twice as many slots as a statement has columns, so that look-ups stay short.
 const SLOTS: usize = 512;
+
+const MOST: usize = 256;
 
 // The host text, and the names of the columns in it.
 #[derive(Drop)]
@@ -24,6 +28,16 @@ pub struct Bound {
     ghost few: { vec_len names ≤ 256 },
 }
 
+fn names_of(alloc: Global, fields: &[FieldAsked]) -> Result<Vec<Span>, AllocError>
+    ensures { IfOk result (λ names. names.items ≡ map (λ (f : FieldAsked). f.name) fields.now) }
+{
+    let mut names = Vec::new(alloc);
+    for field in fields {
+        names.push(field.name)?;
+    }
+    Ok(names)
+}
+
 impl Bound {
     // No column.
     pub fn nothing(alloc: Global) -> Bound {
@@ -31,6 +45,16 @@ impl Bound {
             host: Vec::new(alloc),
             names: Vec::new(alloc),
         }
+    }
+
+    // The columns of these fields, of which a statement has at most 256.
+    #[tactic(auto, using(std::proofs::lemmas::List::take_min))]
+    pub fn new(host: Vec<u8>, fields: &[FieldAsked]) -> Result<Bound, AllocError>
+        ensures host { IfOk result (λ bound. bound.host.items ≡ host.items) }
+        ensures names { IfOk result (λ bound. bound.names.items ≡ map (λ (f : FieldAsked). f.name) (take 256 fields.now)) }
+    {
+        let names = names_of(*host.allocator(), &fields[..MOST.min(fields.len())])?;
+        Ok(Bound { host, names })
     }
 
     // The last column of this name.

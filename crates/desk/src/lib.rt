@@ -2,5 +2,7 @@
 #![tactic(auto)]
 
 pub mod bound;
+mod buffers;
 pub mod run;
+mod statements;
 pub mod steps;

@@ -14,7 +14,6 @@ use lines::verb::{StepVerb, read_step};
 use script::words::{first_line, next_word};
 use session::session::Session;
 use std::alloc::AllocError;
-use transcript::answers::Reason;
 use transcript::steps;
 
 // What is left of a script, and the slots of the new book that the line before it asks for.
@@ -69,9 +68,8 @@ impl<'a> Desk<'a> {
             StepVerb::Describe => self.answer_describe(rest, out),
             StepVerb::Ordinal => self.answer_ordinal(rest, out),
             StepVerb::ElementOf => self.answer_element_of(rest, out),
-            StepVerb::Resolve | StepVerb::Bind => {
-                Err(Trouble::NotUnderstood(Reason::NoSuchLine))
-            }
+            StepVerb::Resolve => self.answer_resolve(session, rest, out),
+            StepVerb::Bind => self.answer_bind(session, rest, out),
         };
         session.end(answered, out)?;
         Ok(None)

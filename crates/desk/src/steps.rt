@@ -1,10 +1,11 @@
 // What the lines of the steps do to the book, and what is printed for them.
 use crate::bound::Bound;
+use crate::buffers::buffer_slots;
 use book::tables::Book;
-use calls::{describing, filling};
+use calls::work::Work;
+use calls::{describing, filling, resolving};
 use faults::call::CallFault;
-use finds::tables::Finds;
-use lines::steps::FillLine;
+use lines::steps::{FillLine, ResolveLine};
 use lines::trouble::Trouble;
 use lines::word::{only_word, read_oid};
 use session::session::Session;
@@ -16,13 +17,13 @@ use transcript::{steps, tree, types};
 // A book, the working memory of its steps, and the last bound statement.
 #[derive(Drop)]
 pub struct Desk<'a> {
-    book: Book<'a>,
-    finds: Finds<'a>,
-    bound: Bound,
+    pub(crate) book: Book<'a>,
+    pub(crate) work: Work<'a>,
+    pub(crate) bound: Bound,
 }
 
 // Prints a refusal.
-fn tell_refused(
+pub(crate) fn tell_refused(
     out: &mut Vec<u8>,
     step: Step,
     fault: CallFault,
@@ -33,18 +34,19 @@ fn tell_refused(
 }
 
 impl<'a> Desk<'a> {
-    pub fn new(book: Book<'a>, finds: Finds<'a>, alloc: Global) -> Desk<'a> {
+    // No statement is bound.
+    pub fn new(book: Book<'a>, work: Work<'a>, alloc: Global) -> Desk<'a> {
         Desk {
             book,
-            finds,
+            work,
             bound: Bound::nothing(alloc),
         }
     }
 
     fn fill(&mut self, session: &mut Session<'_>, oids: &[u32]) -> Result<u8, CallFault> {
         match session.in_use() {
-            InUse::Rows => filling::fill(&mut self.book, session.rows(), &mut self.finds, oids),
-            InUse::Shelf => filling::fill(&mut self.book, session.shelf(), &mut self.finds, oids),
+            InUse::Rows => filling::fill(&mut self.book, session.rows(), &mut self.work, oids),
+            InUse::Shelf => filling::fill(&mut self.book, session.shelf(), &mut self.work, oids),
         }
     }
 
@@ -64,6 +66,45 @@ impl<'a> Desk<'a> {
                 Ok(false)
             }
             Err(fault) => tell_refused(out, Step::Fill, fault, allowance),
+        }
+    }
+
+    fn resolve(
+        &mut self,
+        session: &mut Session<'_>,
+        line: &ResolveLine,
+        oids: &mut [u32],
+    ) -> Result<u8, CallFault> {
+        let book = &mut self.book;
+        let work = &mut self.work;
+        let host = line.host.as_slice();
+        let entries = line.entries.as_slice();
+        match session.in_use() {
+            InUse::Rows => resolving::resolve(book, session.rows(), work, host, entries, oids),
+            InUse::Shelf => resolving::resolve(book, session.shelf(), work, host, entries, oids),
+        }
+    }
+
+    // `resolve [out=N] ENTRY..`
+    pub(crate) fn answer_resolve(
+        &mut self,
+        session: &mut Session<'_>,
+        rest: &[u8],
+        out: &mut Vec<u8>,
+    ) -> Result<bool, Trouble> {
+        let alloc = *out.allocator();
+        let line = ResolveLine::read(rest, alloc)?;
+        let count = line.entries.len();
+        let mut oids = vec![in alloc; 0; buffer_slots(line.slots, count)]?;
+        let resolved = self.resolve(session, &line, oids.as_mut_slice());
+        let allowance = session.allowance();
+        match resolved {
+            Ok(rounds) => {
+                oids.truncate(count);
+                steps::resolved(out, rounds, allowance, oids.as_slice())?;
+                Ok(false)
+            }
+            Err(fault) => tell_refused(out, Step::Resolve, fault, allowance),
         }
     }
 

@@ -4,3 +4,4 @@
 pub mod books;
 pub mod steps;
 pub mod tables;
+pub mod work;

@@ -5,12 +5,12 @@ ghost use Rattle.std.specs.Prelude.{◌≡◌, ◌<◌, length, vec_len, IfOk, O
 
 use anyhow::anyhow;
 use book::tables::Book;
+use calls::work::Work;
 use desk::run::Left;
 use desk::steps::Desk;
-use finds::tables::Finds;
 use heap::books::{BookMemory, FULL};
-use heap::steps::FindsMemory;
 use heap::tables::TableMemory;
+use heap::work::StepMemory;
 use session::session::Session;
 use std::io::{Read, Write};
 use std::process::ExitCode;
@@ -85,14 +85,14 @@ fn run_desk<'t>(
 fn run(rt: &HostRuntime, session: &mut Session<'_>, text: &[u8]) -> anyhow::Result<bool> {
     let alloc = rt.alloc();
     let mut books = BookMemory::new(alloc)?;
-    let mut steps = FindsMemory::new(alloc)?;
+    let mut steps = StepMemory::new(alloc)?;
     let mut out = Vec::new(alloc);
     let mut rest = text;
     let mut slots = FULL;
     while !rest.is_empty() {
         let book = Book::new(books.lend(slots));
-        let finds = Finds::new(steps.lend()).ok_or(anyhow!("no memory for a step"))?;
-        let mut desk = Desk::new(book, finds, alloc);
+        let work = Work::new(steps.lend()).ok_or(anyhow!("no memory for a step"))?;
+        let mut desk = Desk::new(book, work, alloc);
         let left = run_desk(rt, session, &mut desk, rest, &mut out)?;
         rest = left.rest;
         slots = left.book.unwrap_or(FULL);
