@@ -1,20 +1,12 @@
 // Runs stored scripts, those among them that are not understood, and prints what typebook prints for each.
 #![tactic(auto)]
 
-use anyhow::anyhow;
-use heap::tables::TableMemory;
-use session::session::Session;
+use runs::run::run_script;
 use std::fs;
-use std::io::Write;
 
 fn show(rt: &HostRuntime, path: &str) -> anyhow::Result<()> {
     let text = fs::read(rt, path)?;
-    let mut memory = TableMemory::new(rt.alloc())?;
-    let mut session = Session::new(memory.lend()).ok_or(anyhow!("no memory for a row table"))?;
-    let mut out = Vec::new(rt.alloc());
-    let _rest = session.run(text.as_slice(), usize::MAX, &mut out)?;
-    session.close(&mut out)?;
-    rt.stdout().write_all(out.as_slice())?;
+    run_script(rt, text.as_slice())?;
     Ok(())
 }
 
@@ -26,6 +18,23 @@ fn main(rt: HostRuntime) -> anyhow::Result<()> {
         "limits.script",
         "spans.script",
         "parts.script",
+        "two-rounds.script",
+        "allowance.script",
+        "missing-row.script",
+        "ring.script",
+        "array-by-typarray.script",
+        "last-of-a-name.script",
+        "bound-statement.script",
+        "chain-of-65.script",
+        "orders.script",
+        "where-the-rust-differs.script",
+        "lab.script",
+        "steps-1.script",
+        "steps-2.script",
+        "steps-3.script",
+        "steps-4.script",
+        "steps-5.script",
+        "steps-6.script",
     ] {
         show(&rt, script)?;
     }

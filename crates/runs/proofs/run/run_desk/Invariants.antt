@@ -1,5 +1,5 @@
 use Rattle.std.proofs.Common.{◌≡◌, ◌<◌, ◌⊎◌, length, vec_len, None}
-use Rattle.typebook.proofs.run_desk.Given as goal
+use Rattle.runs.proofs.run.run_desk.Given as goal
 
 -- what was printed is written out; once a line is carried out the rest is shorter, and before that no book was asked for
 abbrev pub invariant-loop-desk : goal.invariant-loop-desk

@@ -1,0 +1,4 @@
+// Scripts, run as a whole.
+#![tactic(auto)]
+
+pub mod run;
