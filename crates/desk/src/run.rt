@@ -1,9 +1,9 @@
 // The lines of a script, until one asks for a new book.
-ghost use Rattle.std.specs.Prelude.{◌≡◌, ◌<◌, ◌≤◌, false, length, vec_len, IfOk, None};
+ghost use Rattle.std.specs.Prelude.{◌≡◌, ◌<◌, ◌≤◌, ◌++◌, false, true, length, vec_len, IfOk, None};
 ghost use Rattle.std.specs.Option.{is_some};
-ghost use Rattle.desk.specs.Run.{is_step};
-ghost use Rattle.script.specs.Words.{words};
-ghost use Rattle.session.specs.Run.{done, printed, run_of};
+ghost use Rattle.desk.specs.Run.{is_step, no_steps};
+ghost use Rattle.script.specs.Words.{lines, words};
+ghost use Rattle.session.specs.Run.{all_done, all_printed, done, printed, run_of};
 ghost use Rattle.transcript.specs.Appends.{Behind};
 
 use crate::steps::Desk;
@@ -94,8 +94,8 @@ impl<'a> Desk<'a> {
     }
 
     // Carries out line after line until the text is at its end, `enough` bytes are printed or a new book is asked for, and hands
-    // back what is left.
-    #[tactic(auto, using(session::proofs::NoLine::no_bytes))]
+    // back what is left. However a script without steps is run piece by piece, the same is printed and done in the end.
+    #[tactic(auto, using(crate::proofs::NoLine::no_bytes))]
     pub fn run<'t>(
         &mut self,
         session: &mut Session<'_>,
@@ -103,6 +103,8 @@ impl<'a> Desk<'a> {
         enough: usize,
         out: &mut Vec<u8>,
     ) -> Result<Left<'t>, AllocError>
+        ensures prints { no_steps (lines text.now) ≡ true → IfOk result (λ left. out.new.items ++ all_printed (run_of session.new) (lines left.rest.now) ≡ out.old.items ++ all_printed (run_of session.old) (lines text.now)) }
+        ensures counts { no_steps (lines text.now) ≡ true → IfOk result (λ left. all_done (run_of session.new) (lines left.rest.now) ≡ all_done (run_of session.old) (lines text.now)) }
         ensures forward { IfOk result (λ left. vec_len out.old < enough → 0 < length text.now → length left.rest.now < length text.now) }
         ensures stops { IfOk result (λ left. left.book ≡ None → 0 < length left.rest.now → enough ≤ vec_len out.new) }
     {

@@ -1,4 +1,3 @@
-pub mod NoLine
 pub mod Troubles
 pub mod Added
 pub mod Answered

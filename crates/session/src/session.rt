@@ -1,8 +1,8 @@
-// A run of a script: its lines one by one, and how many there were.
-ghost use Rattle.std.specs.Prelude.{◌≡◌, ◌<◌, ◌≤◌, ◌++◌, length, IfOk, MatchOption, vec_len, OnOk, ◌==◌};
+// The lines of a script, one by one, and how many there were.
+ghost use Rattle.std.specs.Prelude.{◌≡◌, MatchOption, OnOk, ◌==◌};
 ghost use Rattle.row_table.specs.Table.{Whole};
-ghost use Rattle.script.specs.Words.{lines, words};
-ghost use Rattle.session.specs.Run.{Closes, Replied, after_echo, after_read, all_done, all_printed, answered, done, ended, is_comment, printed, run_of, start};
+ghost use Rattle.script.specs.Words.{words};
+ghost use Rattle.session.specs.Run.{Closes, Replied, after_echo, after_read, answered, done, ended, is_comment, printed, run_of, start};
 ghost use Rattle.session.specs.Catalogs.{allowance_in_use};
 ghost use Rattle.session.specs.Lines.{reply};
 ghost use Rattle.transcript.specs.Appends.{Appends};
@@ -12,7 +12,7 @@ use crate::catalogs::Catalogs;
 use lines::trouble::Trouble;
 use row_table::memory::Memory;
 use row_table::table::RowTable;
-use script::words::{first_line, next_word};
+use script::words::next_word;
 use shelf::shelf::Shelf;
 use std::alloc::AllocError;
 use transcript::answers;
@@ -142,30 +142,6 @@ impl<'a> Session<'a> {
         }
         self.begin(line, out)?;
         self.answer_line(verb, rest, out)
-    }
-
-    // Carries out line after line until the text is at its end or `enough` bytes are printed, and hands back
-    // what is left. However a script is run piece by piece, the same is printed and done in the end.
-    #[tactic(auto, using(crate::proofs::NoLine::no_bytes))]
-    pub fn run<'t>(
-        &mut self,
-        text: &'t [u8],
-        enough: usize,
-        out: &mut Vec<u8>,
-    ) -> Result<&'t [u8], AllocError>
-        ensures prints { IfOk result (λ rest. out.new.items ++ all_printed (run_of self.new) (lines rest.now) ≡ out.old.items ++ all_printed (run_of self.old) (lines text.now)) }
-        ensures counts { IfOk result (λ rest. all_done (run_of self.new) (lines rest.now) ≡ all_done (run_of self.old) (lines text.now)) }
-        ensures forward { IfOk result (λ rest. vec_len out.old < enough → 0 < length text.now → length rest.now < length text.now) }
-        ensures stops { IfOk result (λ rest. 0 < length rest.now → enough ≤ vec_len out.new) }
-    {
-        let mut rest = text;
-        while out.len() < enough
-            && let Some((line, further)) = first_line(rest)
-        {
-            self.line(line, out)?;
-            rest = further;
-        }
-        Ok(rest)
     }
 
     // The last line that is printed.

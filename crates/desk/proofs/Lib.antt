@@ -1,0 +1,2 @@
+pub mod NoLine
+pub mod Unstepped
