@@ -137,7 +137,7 @@ module _ (c : Catalog) (t : Tables) (agree : Agrees c (contents t)) (ds : List D
       by_element None e = refl
       by_element (Some k) e =
           let there : (o : ℕ) → Mem o (asked_in_full (element_asks c b (Some k))) → left o ≡ unresolved c d o =
-              λ o q. left_so o (requested (array_of n) m o (subst (λ y. Mem o (asked_in_full (element_asks c b y))) (sym e) q)) in
+          λ o q. left_so o (requested (array_of n) m o (subst (λ y. Mem o (asked_in_full (element_asks c b y))) (sym e) q)) in
           let array : arrays k ≡ link c b k = array_so k (array_of n, m, sym (lead_is c b agree n) ∙ e) in
           (λ i. there k (inl refl) i || passes left (array i))
           ∙ ap (λ v. unresolved c d k || v) (only left (unresolved c d) (link c b k) (λ o q. there o (inr q)))

@@ -1,11 +1,9 @@
 -- What round 1 of a resolve has read, and how its questions end.
 -- Assumes nothing.
-use Rattle.std.specs.Prelude.{◌≡◌, ℕ, ◌-◌, IfErr, IfOk, List, length, map, Ok, Err, Result, None, Option}
+use Rattle.std.specs.Prelude.{◌≡◌, ℕ, ◌-◌, IfErr, IfOk, List, length, map, Ok, Err, Result, Option}
 use Rattle.catalog.specs.Catalog.{Catalog}
-use Rattle.life.specs.Calls.{Declared, of_oid, of_name, array_of, array_link}
+use Rattle.life.specs.Calls.{array_link}
 use Rattle.life.specs.Reading.{Read, reading, halted}
-use Rattle.life.specs.RoundOne.{lead}
-use Rattle.life.specs.Steps.{Book}
 use Rattle.finds.specs.declared.tables.Finds.{Finds}
 use Rattle.finds.specs.Finds.{queue_of, rows_of}
 use Rattle.faults.specs.declared.fill.FillFault.{FillFault}

@@ -55,12 +55,7 @@ fn array_if(book: &Book<'_>, element: Option<Oid>) -> Option<Oid>
 }
 
 // Whether an OID that the entry asked for has a row and is not known.
-fn is_unresolved(
-    finds: &Finds<'_>,
-    book: &Book<'_>,
-    entry: TypeAsked,
-    lead: Option<Oid>,
-) -> bool
+fn is_unresolved(finds: &Finds<'_>, book: &Book<'_>, entry: TypeAsked, lead: Option<Oid>) -> bool
     ensures { (c : Catalog) → ReadFrom c finds.now → reads_of finds.now ≡ queue_of finds.now → (host : List ℕ) →
         result ≡ asked_for (book_held (held_of book.now)).arrays (left_over c (known_to book.now) (reads_of finds.now)) (meant_type host (type_asked entry)) (oid_told lead) }
 {
@@ -133,11 +128,7 @@ pub fn first_unresolved(
 }
 
 // The place of the first entry without an OID.
-pub fn first_without(
-    notes: &Notes<'_>,
-    book: &Book<'_>,
-    entries: &[TypeAsked],
-) -> Option<usize>
+pub fn first_without(notes: &Notes<'_>, book: &Book<'_>, entries: &[TypeAsked]) -> Option<usize>
     ensures below { IfSome result (λ place. place < length entries.now) }
     ensures first { (host : List ℕ) →
         result ≡ first_place (λ x. without_oid (book_held (held_of book.now)).arrays (known_to book.now) x.0 x.1) 0 (led host entries.now notes.now) }
@@ -162,12 +153,7 @@ fn written_at(notes: &Notes<'_>, book: &Book<'_>, entry: TypeAsked, place: usize
 }
 
 // Writes the OIDs of the entries over the buffer, from its start on: nothing where it is too short.
-pub fn write_oids(
-    notes: &Notes<'_>,
-    book: &Book<'_>,
-    entries: &[TypeAsked],
-    out: &mut [u32],
-)
+pub fn write_oids(notes: &Notes<'_>, book: &Book<'_>, entries: &[TypeAsked], out: &mut [u32])
     ensures written { (host : List ℕ) → length entries.now ≤ length out.old →
         out.new ≡ written_over (all_written (book_held (held_of book.now)).arrays (known_to book.now) (led host entries.now notes.now)) out.old }
     ensures short { length out.old < length entries.now → out.new ≡ out.old }
