@@ -300,6 +300,7 @@ class Simulation:
         try:
             self.fill_rounds(asked, elements, found_arrays)
         except Failure as failure:
+            self.number = '6' if failure.malformed else '4' if failure.kind == 'round 65' else '9'
             if failure.malformed and MALFORMED in self.right or failure.kind == 'round 65' and ROUND_65 in self.right:
                 self.types, self.names, self.arrays = before
             else:
@@ -439,6 +440,7 @@ class Simulation:
         for entry in entries:
             oid = self.oid_of(entry)
             if oid is None:
+                self.number = '10'
                 raise Failure('TypeNotFound ' + sought(entry))
             oids.append(oid)
         return oids
@@ -484,9 +486,11 @@ class Simulation:
     # the lines of a script
 
     def answer(self, line):
+        """The answer as the Rust prints it; .number is the refusal that it would be here."""
         words = words_of(line)
         verb, words = words[0].decode('latin-1'), words[1:]
         self.type_rounds = self.column_rounds = 0
+        self.number = None
         try:
             return getattr(self, 'do_' + verb.replace('-', '_'))(words)
         except Failure as failure:
