@@ -414,6 +414,12 @@ class Simulation:
 
     def resolve(self, entries):
         self.arrays_before = set(self.arrays)
+        oids = []
+        for entry in entries:
+            # those before the first that is not known are not looked up again
+            if self.oid_of(entry) is None:
+                break
+            oids.append(self.oid_of(entry))
         unresolved = [entry for entry in entries if self.oid_of(entry) is None]
         if unresolved:
             if SQL in self.right:
@@ -436,8 +442,7 @@ class Simulation:
                     at += 1
                 pairs = out
             self.fill_cache(pairs, elements)
-        oids = []
-        for entry in entries:
+        for entry in entries[len(oids):]:
             oid = self.oid_of(entry)
             if oid is None:
                 self.number = '10'
