@@ -1,9 +1,9 @@
 // The lines of a script, until one asks for a new book.
 ghost use Rattle.std.specs.Prelude.{◌≡◌, ◌<◌, ◌≤◌, ◌++◌, false, true, length, vec_len, IfOk, None};
 ghost use Rattle.std.specs.Option.{is_some};
-ghost use Rattle.desk.specs.Run.{is_step, no_steps};
+ghost use Rattle.desk.specs.Run.{StepEnded, is_step, no_steps};
 ghost use Rattle.script.specs.Words.{lines, words};
-ghost use Rattle.session.specs.Run.{all_done, all_printed, done, printed, run_of};
+ghost use Rattle.session.specs.Run.{after_echo, all_done, all_printed, done, printed, run_of};
 ghost use Rattle.transcript.specs.Appends.{Behind};
 
 use crate::steps::Desk;
@@ -43,7 +43,9 @@ fn book_line(
     session: &mut Session<'_>,
     rest: &[u8],
     out: &mut Vec<u8>,
-) -> Result<Option<Sizes>, AllocError> {
+) -> Result<Option<Sizes>, AllocError>
+    ensures { IfOk result (λ book. StepEnded (run_of session.old) (run_of session.new)) }
+{
     match answer_book(rest, out) {
         Ok(slots) => Ok(Some(slots)),
         Err(trouble) => {
@@ -61,7 +63,9 @@ impl<'a> Desk<'a> {
         step: StepVerb,
         rest: &[u8],
         out: &mut Vec<u8>,
-    ) -> Result<Option<Sizes>, AllocError> {
+    ) -> Result<Option<Sizes>, AllocError>
+        ensures { IfOk result (λ book. StepEnded (run_of session.old) (run_of session.new)) }
+    {
         let answered = match step {
             StepVerb::Book => return book_line(session, rest, out),
             StepVerb::Fill => self.answer_fill(session, rest, out),
@@ -84,6 +88,7 @@ impl<'a> Desk<'a> {
     ) -> Result<Option<Sizes>, AllocError>
         ensures others { is_step (words line.now) ≡ false → IfOk result (λ book. (book ≡ None) × (run_of session.new ≡ done (run_of session.old) (words line.now))) }
         ensures printed { is_step (words line.now) ≡ false → IfOk result (λ book. Behind out.old.items (printed (run_of session.old) line.now) out.new.items) }
+        ensures steps { is_step (words line.now) ≡ true → IfOk result (λ book. StepEnded (after_echo (run_of session.old)) (run_of session.new)) }
     {
         let Some((step, rest)) = step_of(line) else {
             session.line(line, out)?;
@@ -106,6 +111,7 @@ impl<'a> Desk<'a> {
         ensures prints { no_steps (lines text.now) ≡ true → IfOk result (λ left. out.new.items ++ all_printed (run_of session.new) (lines left.rest.now) ≡ out.old.items ++ all_printed (run_of session.old) (lines text.now)) }
         ensures counts { no_steps (lines text.now) ≡ true → IfOk result (λ left. all_done (run_of session.new) (lines left.rest.now) ≡ all_done (run_of session.old) (lines text.now)) }
         ensures forward { IfOk result (λ left. vec_len out.old < enough → 0 < length text.now → length left.rest.now < length text.now) }
+        ensures books { no_steps (lines text.now) ≡ true → IfOk result (λ left. left.book ≡ None) }
         ensures stops { IfOk result (λ left. left.book ≡ None → 0 < length left.rest.now → enough ≤ vec_len out.new) }
     {
         let mut rest = text;

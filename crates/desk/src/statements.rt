@@ -1,4 +1,6 @@
 // What a bind line does, and what is printed of the statement that it binds.
+ghost use Rattle.session.specs.Run.{AlikeCounted, run_of};
+
 use crate::bound::Bound;
 use crate::buffers::buffer_slots;
 use crate::steps::{Desk, tell_refused};
@@ -106,7 +108,9 @@ impl<'a> Desk<'a> {
         line: &BindLine,
         types: &mut [BoundType],
         columns: &mut [BoundColumn],
-    ) -> Result<Rounds, CallFault> {
+    ) -> Result<Rounds, CallFault>
+        ensures { AlikeCounted (run_of session.old) (run_of session.new) }
+    {
         let book = &mut self.book;
         let work = &mut self.work;
         let host = line.host.as_slice();
@@ -114,10 +118,11 @@ impl<'a> Desk<'a> {
         let fields = line.fields.as_slice();
         let queries = line.queries;
         let origins = line.origins;
-        match session.in_use() {
+        let catalogs = &mut session.catalogs;
+        match catalogs.in_use() {
             InUse::Rows => bind(
                 book,
-                session.rows(),
+                &mut catalogs.rows,
                 work,
                 host,
                 parameters,
@@ -129,7 +134,7 @@ impl<'a> Desk<'a> {
             ),
             InUse::Shelf => bind(
                 book,
-                session.shelf(),
+                &mut catalogs.shelf,
                 work,
                 host,
                 parameters,
@@ -154,7 +159,9 @@ impl<'a> Desk<'a> {
         session: &mut Session<'_>,
         rest: &[u8],
         out: &mut Vec<u8>,
-    ) -> Result<bool, Trouble> {
+    ) -> Result<bool, Trouble>
+        ensures { AlikeCounted (run_of session.old) (run_of session.new) }
+    {
         let alloc = *out.allocator();
         let line = BindLine::read(rest, alloc)?;
         let parameters = line.parameters.len();

@@ -1,4 +1,6 @@
 // What the lines of the steps do to the book, and what is printed for them.
+ghost use Rattle.session.specs.Run.{AlikeCounted, run_of};
+
 use crate::bound::Bound;
 use crate::buffers::buffer_slots;
 use book::tables::Book;
@@ -43,10 +45,15 @@ impl<'a> Desk<'a> {
         }
     }
 
-    fn fill(&mut self, session: &mut Session<'_>, oids: &[u32]) -> Result<u8, CallFault> {
-        match session.in_use() {
-            InUse::Rows => filling::fill(&mut self.book, session.rows(), &mut self.work, oids),
-            InUse::Shelf => filling::fill(&mut self.book, session.shelf(), &mut self.work, oids),
+    fn fill(&mut self, session: &mut Session<'_>, oids: &[u32]) -> Result<u8, CallFault>
+        ensures { AlikeCounted (run_of session.old) (run_of session.new) }
+    {
+        let book = &mut self.book;
+        let work = &mut self.work;
+        let catalogs = &mut session.catalogs;
+        match catalogs.in_use() {
+            InUse::Rows => filling::fill(book, &mut catalogs.rows, work, oids),
+            InUse::Shelf => filling::fill(book, &mut catalogs.shelf, work, oids),
         }
     }
 
@@ -56,7 +63,9 @@ impl<'a> Desk<'a> {
         session: &mut Session<'_>,
         rest: &[u8],
         out: &mut Vec<u8>,
-    ) -> Result<bool, Trouble> {
+    ) -> Result<bool, Trouble>
+        ensures { AlikeCounted (run_of session.old) (run_of session.new) }
+    {
         let line = FillLine::read(rest, *out.allocator())?;
         let filled = self.fill(session, line.oids.as_slice());
         let allowance = session.allowance();
@@ -74,14 +83,21 @@ impl<'a> Desk<'a> {
         session: &mut Session<'_>,
         line: &ResolveLine,
         oids: &mut [u32],
-    ) -> Result<u8, CallFault> {
+    ) -> Result<u8, CallFault>
+        ensures { AlikeCounted (run_of session.old) (run_of session.new) }
+    {
         let book = &mut self.book;
         let work = &mut self.work;
         let host = line.host.as_slice();
         let entries = line.entries.as_slice();
-        match session.in_use() {
-            InUse::Rows => resolving::resolve(book, session.rows(), work, host, entries, oids),
-            InUse::Shelf => resolving::resolve(book, session.shelf(), work, host, entries, oids),
+        let catalogs = &mut session.catalogs;
+        match catalogs.in_use() {
+            InUse::Rows => {
+                resolving::resolve(book, &mut catalogs.rows, work, host, entries, oids)
+            }
+            InUse::Shelf => {
+                resolving::resolve(book, &mut catalogs.shelf, work, host, entries, oids)
+            }
         }
     }
 
@@ -91,7 +107,9 @@ impl<'a> Desk<'a> {
         session: &mut Session<'_>,
         rest: &[u8],
         out: &mut Vec<u8>,
-    ) -> Result<bool, Trouble> {
+    ) -> Result<bool, Trouble>
+        ensures { AlikeCounted (run_of session.old) (run_of session.new) }
+    {
         let alloc = *out.allocator();
         let line = ResolveLine::read(rest, alloc)?;
         let count = line.entries.len();

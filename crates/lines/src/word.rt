@@ -66,11 +66,14 @@ pub fn read_attribute_link(word: &[u8]) -> Result<Option<AttributeNumber>, Reaso
     }
 }
 
+// The room that most names fit in.
+const USUAL: usize = 64;
+
 // The name that a word writes.
 pub fn read_name(word: &[u8], alloc: Global) -> Result<Vec<u8>, Trouble>
     ensures { Reads (λ name. name.items) (name_read word.now) result }
 {
-    let mut name = Vec::with_capacity(alloc, word.len())?;
+    let mut name = Vec::with_capacity(alloc, USUAL.min(word.len()))?;
     decode(word, &mut name)?;
     Ok(name)
 }

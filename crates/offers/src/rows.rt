@@ -36,6 +36,9 @@ fn read_few<A: Copy, B: Copy, F: Fn(A) -> Option<B>>(
     requires { F.IsAlwaysCallable read }
     ensures { FewRead (F.post read) offered.now (option_map standing result) }
 {
+    if offered.len() > 64 {
+        return None;
+    }
     let mut few = Few::new(unused);
     for one in offered {
         few.push(read(*one)?)?;

@@ -44,6 +44,11 @@ ended (Ok refused) s = record s { refused = if refused then one_more s.refused e
 ended (Err (NotUnderstood why)) s = record s { misread = one_more s.misread }
 ended (Err (OutOfMemory e)) s = s
 
+-- the same counts, whatever the catalogs hold
+abbrev pub AlikeCounted : Run → Run → Type 0
+AlikeCounted before after =
+    (after.read ≡ before.read) × (after.echoed ≡ before.echoed) × (after.refused ≡ before.refused) × (after.misread ≡ before.misread)
+
 -- a line whose first word begins with # (35) is a comment
 abbrev pub is_comment : List ℕ → Bool
 is_comment [] = false

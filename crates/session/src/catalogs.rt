@@ -13,8 +13,8 @@ const ALLOWANCE: u32 = 64;
 
 #[derive(Drop)]
 pub struct Catalogs<'a> {
-    pub(crate) rows: RowTable<'a>,
-    pub(crate) shelf: Shelf,
+    pub rows: RowTable<'a>,
+    pub shelf: Shelf,
     in_use: InUse,
 }
 

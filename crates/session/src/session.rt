@@ -24,7 +24,7 @@ pub struct Session<'a> {
     echoed: u64,
     refused: u64,
     misread: u64,
-    catalogs: Catalogs<'a>,
+    pub catalogs: Catalogs<'a>,
 }
 
 fn is_comment(verb: &[u8]) -> bool

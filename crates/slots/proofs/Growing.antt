@@ -8,7 +8,7 @@ use Rattle.keys.specs.Kinds.{span-grows}
 use Rattle.keys.specs.Spans.{span_bytes}
 use Rattle.slots.specs.Text.{Laid, LentText, Room}
 
-laid :
+pub laid :
     (before after : LentText) (bytes : List ℕ) (span : Span) → Room before (length bytes) → after.text ≡ before.text ++ bytes →
     after.spare ≡ drop (length bytes) before.spare → span.start ≡ length before.text → span.length ≡ length bytes → Laid before bytes span after
 laid before after bytes span room text spare start long =

@@ -79,7 +79,7 @@ module _ {S V Q : Type 0} where
     passes : (k : ℕ) → Passed sense digest es q k → (i : ℕ) → i < k → stops_at alike sense q (slot (0 + i)) ≡ false
     passes k passed i l = rw zero-add (goes_on (slot i) (passed i l))
 
-    looks-at : (k : ℕ) → k < length es → Passed sense digest es q k → stops_at alike sense q (slot k) ≡ true → k + 1 ≡ looks alike sense digest es q
+    pub looks-at : (k : ℕ) → k < length es → Passed sense digest es q k → stops_at alike sense q (slot k) ≡ true → k + 1 ≡ looks alike sense digest es q
     looks-at k l passed stop =
         let m : ℕ = length es - suc k in
         let split : length es ≡ k + suc m = omega arith in
@@ -87,7 +87,7 @@ module _ {S V Q : Type 0} where
         let here : stops_at alike sense q (slot (0 + k)) ≡ true = rw zero-add stop in
         grind arith
 
-    looks-all : Passed sense digest es q (length es) → length es ≡ looks alike sense digest es q
+    pub looks-all : Passed sense digest es q (length es) → length es ≡ looks alike sense digest es q
     looks-all passed =
         let on = looks_on (length es) 0 0 (passes (length es) passed) in
         let split : length es ≡ length es + 0 = omega arith in

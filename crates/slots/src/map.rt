@@ -1,4 +1,5 @@
-// A hash map over slots that the host lends, for every kind of key and value. No key is ever taken out or overwritten.
+// A hash map over slots that the host lends, for every kind of key and value. No key is ever overwritten, and none is taken
+// out but with all the others.
 ghost use Rattle.std.specs.Prelude.{◌≡◌, ℕ, ◌+◌, ◌<◌, ◌≤◌, List, length, None, ⊤};
 ghost use Rattle.slots.specs.Slots.{filled, held, looks, Within, Kept, StoredAs, Told, Free, Added, Inserted, Steady};
 

@@ -1,4 +1,4 @@
-// Bytes that the host lends, of which the first `used` are the text. It only grows, at its end.
+// Bytes that the host lends, of which the first `used` are the text. It grows at its end, and is taken out as a whole.
 ghost use Rattle.std.specs.Prelude.{◌≡◌, []};
 ghost use Rattle.slots.specs.Text.{Appended, lent};
 

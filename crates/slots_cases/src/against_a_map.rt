@@ -1,5 +1,5 @@
 // Random insertions and look-ups in a small table, each compared with a map of std.
-ghost use Rattle.std.specs.Prelude.{◌<◌};
+ghost use Rattle.std.specs.Prelude.{◌<◌, ◌≤◌, length};
 
 use indexes::names::NameIndex;
 use indexes::whole::OidIndex;
@@ -79,7 +79,9 @@ const LETTERS: &[u8; 104] =
     b"aaaabbbbccccddddeeeeffffgggghhhhiiiijjjjkkkkllllmmmmnnnnooooppppqqqqrrrrssssttttuuuuvvvvwwwwxxxxyyyyzzzz";
 
 // Between one and four times the same letter, for a number below 4 * 26.
-fn spell(number: u32) -> &'static [u8] {
+fn spell(number: u32) -> &'static [u8]
+    ensures { length result.now ≤ 4 }
+{
     let start = (number % 26) as usize * 4;
     let length = (number / 26 % 4) as usize + 1;
     let letters: &'static [u8] = LETTERS;

@@ -29,25 +29,24 @@ fn print_averages<F: Fn(usize) -> Result<usize, AllocError>>(
     Ok(())
 }
 
-fn name_probes(rt: &HostRuntime, names: &[&str], size: usize) -> Result<usize, AllocError> {
+fn name_probes(rt: &HostRuntime, text: &str, size: usize) -> Result<usize, AllocError> {
     let mut bytes = vec![in rt.alloc(); 0u8; 65536]?;
     let mut slots = vec![in rt.alloc(); None; size]?;
     let mut table = NameIndex::new(&mut bytes[..], &mut slots[..]);
-    for name in names {
+    for name in text.lines() {
         let _ = table.intern(name.as_bytes(), 0u8);
     }
-    let looked = names.iter().map(|name| table.looked(name.as_bytes()));
+    let looked = text.lines().map(|name| table.looked(name.as_bytes()));
     Ok(looked.fold(0, usize::saturating_add))
 }
 
 // 1,024 type names of a PostgreSQL, with and without their schemas.
 pub fn names(rt: &HostRuntime) -> anyhow::Result<()> {
     let text = fs::read_to_string(rt, "type-names.txt")?;
-    let names: Vec<&str> = text.lines().collect(rt.alloc())?;
     print_averages(
         rt,
         "type names",
-        |size| name_probes(rt, names.as_slice(), size),
+        |size| name_probes(rt, text.as_str(), size),
     )
 }
 

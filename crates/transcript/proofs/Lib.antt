@@ -1,2 +1,4 @@
+pub mod Ascii
+pub mod Chain
 pub mod Describing
 pub mod Holding
